@@ -1,0 +1,18 @@
+-- `device::Device::returned` meets its contract: each return follows from the tests on its way.
+use borrow.Author.Needs.{needs}
+use Rattle.device.specs.Data.{returned}
+use Rattle.device.proofs.Arms.{arms}
+use Rattle.device.proofs.Device.returned.Statement.{statement}
+use Rattle.device.proofs.Device.returned.Tie as tie
+
+pub returned-spec : {M : Type 1} → statement M
+unfolding returned
+returned-spec =
+    tie.close
+    (tie.spec
+    (λ c κs. search needs)
+    (λ c. search arms)
+    (λ c κs. search needs)
+    (λ c. search arms)
+    (λ c κs. search needs)
+    (λ c. search arms))

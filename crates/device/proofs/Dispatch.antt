@@ -1,0 +1,101 @@
+-- The rule of a frame's kind, where one is listed and where none is; and the number of an addressed message by its low five bits.
+use Prim.Native.Nat.{ℕ, zero, suc, _≤_, _<_, _%_}
+use mathlib.Core.Path.{_≡_, refl, sym, ap, _∙_}
+use mathlib.Core.Logic.{⊎-elim}
+use mathlib.Core.List.{List, [], _∷_}
+use mathlib.Core.Bool.{Bool, true, false, cond, _&&_}
+use native.Mathlib.Omega.{arith}
+use lib.Dec.{T, eqb, ltb, leb}
+use borrow.Author.Tests.{eqb-true, eqb-false, ne-eqb, ltb-true, leb-true}
+use denote.Enum.Declared.{tagOf}
+use types.Run.{OneOf}
+use Rattle.frame.specs.declared.Kind.{Kind}
+use Rattle.frame.specs.Messages.{frames, numberOf, kindAt, firstOf, codesOf}
+use Rattle.frame.proofs.Kind.{the-type}
+use Rattle.frame.proofs.Every.{tag}
+use Rattle.frame.proofs.Rows.{within-kind, no-frame}
+use Rattle.device.specs.Choose.{choose}
+use Rattle.device.specs.Reply.{sends}
+use Rattle.device.specs.Take.{Rule, number, select, rules, takes}
+use Rattle.device.specs.declared.Device.{Device}
+use Rattle.device.specs.declared.Sent.{Sent}
+
+pub listed : (j : Kind) {k : Kind} {x : Sent} (d : Device) (f : ℕ) → numberOf k ≡ kindAt f → k ≡ j →
+    x ≡ select (numberOf j) (rules d f) (sends d f) → x ≡ takes d f
+unfolding takes
+listed j d f e q h = rw (← e, q) h
+
+abbrev free : ℕ → List ℕ → Bool
+free k [] = true
+free k (j ∷ js) = cond (eqb j k) false (free k js)
+
+abbrev unlisted : List ℕ → List Rule → Bool
+unlisted ks [] = true
+unlisted ks (r ∷ rs) = cond (free (r .kind) ks) (unlisted ks rs) false
+
+both : (a b : Bool) → T (cond a b false) → T a × T b
+both true b t = (tt, t)
+both false b t = absurd t
+
+differ : (j k : ℕ) (b : Bool) → T (cond (eqb j k) false b) → (j ≡ k → ⊥) × T b
+differ j k b t = split (eqb j k) refl t
+  where
+    split : (e : Bool) → eqb j k ≡ e → T (cond e false b) → (j ≡ k → ⊥) × T b
+    split true q u = absurd u
+    split false q u = (eqb-false j k q, u)
+
+apart : (ks : List ℕ) (n k : ℕ) → OneOf ks n → T (free k ks) → n ≡ k → ⊥
+apart [] n k o t q = o
+apart (j ∷ []) n k o t q = differ j k true t .0 (sym o ∙ q)
+apart (j ∷ i ∷ ks) n k o t q =
+    let p = differ j k (free k (i ∷ ks)) t in ⊎-elim (λ e. p .0 (sym e ∙ q)) (λ m. apart (i ∷ ks) n k m (p .1) q) o
+
+falls : (ks : List ℕ) (n : ℕ) (rs : List Rule) (s : Sent) → OneOf ks n → T (unlisted ks rs) → select n rs s ≡ s
+unfolding choose
+falls ks n [] s o t = refl
+falls ks n (r ∷ rs) s o t =
+    let p = both (free (r .kind) ks) (unlisted ks rs) t in
+    rw (ne-eqb n (r .kind) (apart ks n (r .kind) o (p .0))) (falls ks n rs s o (p .1))
+
+-- the n numbers from i on that are no rule's kind
+abbrev absent : ℕ → List Rule → List ℕ → List ℕ
+absent k [] ks = k ∷ ks
+absent k (r ∷ rs) ks = cond (eqb k (r .kind)) ks (absent k rs ks)
+
+abbrev pub rest : List Rule → ℕ → ℕ → List ℕ
+rest rs i zero = []
+rest rs i (suc n) = absent i rs (rest rs (suc i) n)
+
+pub other : (k : Kind) {x : Sent} (d : Device) (f : ℕ) → numberOf k ≡ kindAt f → OneOf (rest (rules d f) 0 43) (tagOf the-type k) →
+    x ≡ sends d f → x ≡ takes d f
+unfolding takes
+other k d f e o h =
+    let z : tagOf the-type k ≡ kindAt f = tag k ∙ e in
+    h ∙ sym (falls (rest (rules d f) 0 43) (kindAt f) (rules d f) (sends d f) (rw z at o) tt)
+
+-- ---- the number of LAD, TAD and AAD
+
+both-true : (a b : Bool) → (a && b) ≡ true → (a ≡ true) × (b ≡ true)
+both-true true b h = (refl, h)
+both-true false b h = let z : false ≡ true = h in (z, cc)
+
+-- a kind of the list whose codes start at a multiple of 32 and are at most 32
+abbrev fiveBits : ℕ → Bool
+fiveBits k = ltb 0 k && (eqb (firstOf k % 32) 0 && leb (codesOf k) 32)
+
+pub low-five : (j : Kind) {k : Kind} (f : ℕ) → numberOf k ≡ kindAt f → k ≡ j → fiveBits (numberOf j) ≡ true → f % 32 ≡ number j f
+low-five j {k} f e q t =
+    let n = numberOf j in
+    let a = both-true (ltb 0 n) (eqb (firstOf n % 32) 0 && leb (codesOf n) 32) t in
+    let b = both-true (eqb (firstOf n % 32) 0) (leb (codesOf n) 32) (a .1) in
+    let m : firstOf n % 32 ≡ 0 = eqb-true _ _ (b .0) in
+    let w : codesOf n ≤ 32 = leb-true _ _ (b .1) in
+    let i = within-kind f n (sym e ∙ ap numberOf q) (ltb-true 0 n (a .0)) in omega arith
+
+-- a frame of a kind of the list is below 2,048
+pub below : (j : Kind) {k : Kind} (f : ℕ) → numberOf k ≡ kindAt f → k ≡ j → ltb 0 (numberOf j) ≡ true → f < frames
+below j {k} f e q t =
+    let n = numberOf j in
+    let p : 0 < n = ltb-true 0 n t in
+    let z : kindAt f ≡ n = sym e ∙ ap numberOf q in
+    let out : frames ≤ f → ⊥ = λ h. omega (arith, no-frame f h) in omega arith

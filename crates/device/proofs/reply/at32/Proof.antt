@@ -1,0 +1,13 @@
+-- `device::reply::at32` meets its contract: a place past the array's end reads as 0.
+use borrow.Author.Needs.{needs}
+use Rattle.device.proofs.Bytes.{past}
+use Rattle.device.proofs.reply.at32.Statement.{statement}
+use Rattle.device.proofs.reply.at32.Tie as tie
+
+pub at32-spec : {M : Type 1} → statement M
+at32-spec =
+    tie.close
+    (tie.spec
+    (λ c. search needs)
+    (λ c. search needs)
+    (λ c. past (c .before .args .t1) (c .before .args .at) 32 (search needs) (search needs)))

@@ -1,0 +1,11 @@
+pub mod Choose
+pub mod Device
+pub mod PowerOn
+pub mod Change
+pub mod Commands
+pub mod Reply
+pub mod Ready
+pub mod Data
+pub mod Take
+pub mod Local
+pub mod Rows

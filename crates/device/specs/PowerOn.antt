@@ -1,0 +1,34 @@
+-- A device at power-on, from its set-up item (01, The calls): abilities, fixed address, accessory ID, ID length, 8 ID bytes.
+use Prim.Native.Nat.{ℕ, zero, suc}
+use mathlib.Core.List.{List, [], _∷_}
+use lib.ListN.{getD, replicate}
+use Rattle.device.specs.Device.{idle, noService, mostID, mostData}
+use Rattle.device.specs.declared.Device.{Device}
+
+-- the n bytes of b from place k on, 0 past its end
+unfoldable pub bytesFrom : ℕ → ℕ → List ℕ → List ℕ
+bytesFrom k zero b = []
+bytesFrom k (suc n) b = getD b k 0 ∷ bytesFrom (suc k) n b
+
+-- address now is the fixed one, all else zero but the item's values
+unfoldable pub powerOn : List ℕ → Device
+powerOn item =
+    record {
+      abilities = getD item 0 0;
+      fixed = getD item 1 0;
+      address = getD item 1 0;
+      configured = 0;
+      listener = 0;
+      talker = idle;
+      service = noService;
+      noted = 0;
+      status = 0;
+      accessory = getD item 2 0;
+      idlength = getD item 3 0;
+      loadlength = 0;
+      sent = 0;
+      last = 0;
+      replied = 0;
+      id = bytesFrom 4 mostID item;
+      load = replicate mostData 0;
+    }

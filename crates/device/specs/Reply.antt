@@ -1,0 +1,73 @@
+-- Frames sent, and the replies of a talker (01, What a device does with a frame, from "Reply bytes are DAB").
+use Prim.Native.Nat.{ℕ, _+_, _/_, _%_}
+use lib.Dec.{eqb, ltb}
+use lib.ListN.{getD}
+use Rattle.device.specs.Choose.{choose}
+use Rattle.device.specs.Device.{addressed, sendingData, sendingStatus, sendingDeviceID, asking}
+use Rattle.device.specs.Change.{talking, counting}
+use Rattle.device.specs.declared.Device.{Device}
+use Rattle.device.specs.declared.Sent.{Sent}
+use Rattle.device.specs.declared.Handed.the-variants.{Nothing}
+
+-- the codes of ETO and ETE
+abbrev pub eto : ℕ
+eto = 0x540
+
+abbrev pub ete : ℕ
+ete = 0x541
+
+-- the control bits C1 and C2 as numbers
+abbrev pub c1 : ℕ
+c1 = 0x100
+
+abbrev pub c2 : ℕ
+c2 = 0x200
+
+-- the frame f goes out, and nothing is handed over
+abbrev pub sends : Device → ℕ → Sent
+sends d f = record { device = d; frame = f; handed = Nothing }
+
+-- the frame with C1 set
+abbrev pub withC1 : ℕ → ℕ
+withC1 f = choose (eqb (f / c1 % 2) 1) f (f + c1)
+
+-- a DAB, END or IDY as it goes out: C1 is set if service is 1
+unfoldable pub marked : Device → ℕ → ℕ
+marked d f = choose (eqb (d .service) asking) (withC1 f) f
+
+-- to state 1 with the answer e, ETO or ETE
+abbrev pub stops : Device → ℕ → Sent
+stops d e = sends (talking d addressed) e
+
+-- the next byte of the data, after those already sent: END if it is the last
+unfoldable pub dataFrame : Device → ℕ
+dataFrame d =
+    choose (eqb (d .sent + 1) (d .loadlength))
+    (marked d (getD (d .load) (d .sent) 0 + c2))
+    (marked d (getD (d .load) (d .sent) 0))
+
+-- the next byte of another reply: the status, a byte of the ID, the accessory ID
+unfoldable pub otherByte : Device → ℕ
+otherByte d =
+    choose (eqb (d .talker) sendingStatus) (d .status)
+    (choose (eqb (d .talker) sendingDeviceID) (getD (d .id) (d .replied) 0)
+    (d .accessory))
+
+-- how many bytes it has
+unfoldable pub otherLength : Device → ℕ
+otherLength d = choose (eqb (d .talker) sendingDeviceID) (d .idlength) 1
+
+-- a byte of the data goes out
+unfoldable pub sendsData : Device → Sent
+sendsData d = sends (counting d (dataFrame d) (d .sent + 1) (d .replied)) (dataFrame d)
+
+-- a byte of another reply goes out
+unfoldable pub sendsOther : Device → Sent
+sendsOther d = sends (counting d (marked d (otherByte d)) (d .sent) (d .replied + 1)) (marked d (otherByte d))
+
+-- the next byte of the reply; ETO if nothing is left
+unfoldable pub continues : Device → Sent
+continues d =
+    choose (eqb (d .talker) sendingData)
+    (choose (ltb (d .sent) (d .loadlength)) (sendsData d) (stops d eto))
+    (choose (ltb (d .replied) (otherLength d)) (sendsOther d) (stops d eto))

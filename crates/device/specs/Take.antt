@@ -1,0 +1,53 @@
+-- What a device does with a frame of each kind: a rule a kind, and every kind without a rule goes on unchanged.
+use Prim.Native.Nat.{ℕ, _-_}
+use mathlib.Core.List.{List, [], _∷_}
+use lib.Dec.{eqb}
+use Rattle.frame.specs.declared.Kind.{Kind}
+use Rattle.frame.specs.declared.Kind.the-variants.{Dab, End, Lad, Unl, Tad, Unt, Ifc, Aau, Nrd, Sda, Sst, Sdi, Sai, Aad, Idy}
+use Rattle.frame.specs.Messages.{numberOf, kindAt, firstOf}
+use Rattle.device.specs.Choose.{choose}
+use Rattle.device.specs.Device.{sendData, deviceID, accessoryID, sendingData, sendingDeviceID, sendingAccessoryID}
+use Rattle.device.specs.Commands.{lad, unl, tad, unt, ifc, aau}
+use Rattle.device.specs.Reply.{sends}
+use Rattle.device.specs.Ready.{requested, sst, nrd, aad}
+use Rattle.device.specs.Data.{dataOrEnd, idy}
+use Rattle.device.specs.declared.Device.{Device}
+use Rattle.device.specs.declared.Sent.{Sent}
+
+pub record Rule : Type 0 where
+  pub kind : ℕ
+  pub gives : Sent
+
+abbrev pub on : Kind → Sent → Rule
+on k s = record { kind = numberOf k; gives = s }
+
+-- a message's number: the frame less its kind's first code
+abbrev pub number : Kind → ℕ → ℕ
+number k f = f - firstOf (numberOf k)
+
+abbrev pub rules : Device → ℕ → List Rule
+rules d f =
+    on Lad (sends (lad d (number Lad f)) f) ∷
+    on Unl (sends (unl d) f) ∷
+    on Tad (sends (tad d (number Tad f)) f) ∷
+    on Unt (sends (unt d) f) ∷
+    on Ifc (sends (ifc d) f) ∷
+    on Aau (sends (aau d) f) ∷
+    on Sda (requested d f sendData sendingData) ∷
+    on Sst (sst d f) ∷
+    on Sdi (requested d f deviceID sendingDeviceID) ∷
+    on Sai (requested d f accessoryID sendingAccessoryID) ∷
+    on Nrd (sends (nrd d) f) ∷
+    on Aad (aad d f (number Aad f)) ∷
+    on Dab (dataOrEnd d f) ∷
+    on End (dataOrEnd d f) ∷
+    on Idy (idy d f) ∷
+    []
+
+-- what the rule of kind k gives; s where there is none
+abbrev pub select : ℕ → List Rule → Sent → Sent
+select k [] s = s
+select k (r ∷ rs) s = choose (eqb k (r .kind)) (r .gives) (select k rs s)
+
+unfoldable pub takes : Device → ℕ → Sent
+takes d f = select (kindAt f) (rules d f) (sends d f)

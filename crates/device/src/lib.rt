@@ -1,0 +1,146 @@
+// One device of the loop by value: its fields as 01's table of the record has them, and its state at power-on.
+// What it does with a frame stands in commands, ready, reply, data and take; its local calls stand in local.
+mod change;
+mod commands;
+mod data;
+mod local;
+mod ready;
+mod reply;
+mod take;
+
+ghost use mathlib.Core.Path.{_≡_};
+ghost use Rattle.device.specs.Device.{has, talks};
+ghost use Rattle.device.specs.PowerOn.{powerOn};
+
+pub struct Device {
+    pub abilities: u8,
+    pub fixed: u8,
+    pub address: u8,
+    pub configured: u8,
+    pub listener: u8,
+    pub talker: u8,
+    pub service: u8,
+    pub noted: u8,
+    pub status: u8,
+    pub accessory: u8,
+    pub idlength: u8,
+    pub loadlength: u8,
+    pub sent: u8,
+    pub last: u16,
+    pub replied: u8,
+    pub id: [u8; 8],
+    pub load: [u8; 32],
+}
+
+// A byte handed to a listener, with its end bit C2.
+pub enum Handed {
+    Nothing,
+    Byte(u8, u8),
+}
+
+// The device after a frame, the frame that it sends and what it is handed.
+pub struct Sent {
+    pub device: Device,
+    pub frame: u16,
+    pub handed: Handed,
+}
+
+// What a local call leaves: refusal 0 and the next device, or a refusal and the device as it was.
+pub struct Called {
+    pub refusal: u8,
+    pub device: Device,
+}
+
+impl Device {
+    // Abilities, as byte 0 of the record adds them up.
+    pub const LISTEN: u8 = 1;
+
+    pub const SEND_DATA: u8 = 2;
+
+    pub const STATUS: u8 = 4;
+
+    pub const DEVICE_ID: u8 = 8;
+
+    pub const ACCESSORY_ID: u8 = 16;
+
+    pub const AUTO_ADDRESS: u8 = 32;
+
+    pub const UNADDRESS: u8 = 64;
+
+    pub const SERVICE_REQUEST: u8 = 128;
+
+    // Talker states.
+    pub const IDLE: u8 = 0;
+
+    pub const ADDRESSED: u8 = 1;
+
+    pub const SENDING_DATA: u8 = 2;
+
+    pub const SENDING_STATUS: u8 = 3;
+
+    pub const SENDING_DEVICE_ID: u8 = 4;
+
+    pub const SENDING_ACCESSORY_ID: u8 = 5;
+
+    // Service states.
+    pub const NO_SERVICE: u8 = 0;
+
+    pub const ASKING: u8 = 1;
+
+    pub const POLLED: u8 = 2;
+
+    // The fixed address of a device that has none, and limits.
+    pub const NO_ADDRESS: u8 = 31;
+
+    pub const MOST_ID: usize = 8;
+
+    pub const MOST_DATA: usize = 32;
+
+    pub fn has(self, ability: u8) -> bool
+        ensures { λ r. ⌜ r ≡ has self ability ⌝ }
+    {
+        self.abilities & ability != 0
+    }
+
+    // Some of the four abilities whose replies a talker sends.
+    pub fn talks(self) -> bool
+        ensures { λ r. ⌜ r ≡ talks self ⌝ }
+    {
+        self.has(Self::SEND_DATA)
+            | (self.has(Self::STATUS) | (self.has(Self::DEVICE_ID) | self.has(Self::ACCESSORY_ID)))
+    }
+
+    // The device of a set-up item: abilities, fixed address, accessory ID, ID length, ID.
+    pub fn power_on(item: [u8; 12]) -> Self
+        ensures { λ r. ⌜ r ≡ powerOn item ⌝ }
+    {
+        Self {
+            abilities: item[0],
+            fixed: item[1],
+            address: item[1],
+            configured: 0,
+            listener: 0,
+            talker: Self::IDLE,
+            service: Self::NO_SERVICE,
+            noted: 0,
+            status: 0,
+            accessory: item[2],
+            idlength: item[3],
+            loadlength: 0,
+            sent: 0,
+            last: 0,
+            replied: 0,
+            id: [
+                item[4],
+                item[5],
+                item[6],
+                item[7],
+                item[8],
+                item[9],
+                item[10],
+                item[11],
+            ],
+            load: [0u8; 32],
+        }
+    }
+}

@@ -1,0 +1,190 @@
+-- Each change of a device keeps it sound where what it writes is in order: only the group that reads it is shown anew.
+use Prim.Native.Nat.{ℕ, zero, suc, _≤_, _<_}
+use mathlib.Core.Path.{_≡_, refl, sym, _∙_}
+use mathlib.Core.Bool.{Bool, true, false}
+use mathlib.Core.List.{List, [], _∷_}
+use native.Mathlib.Omega.{arith}
+use lib.ListN.{length, drop, getD}
+use lib.Dec.{eqb, ltb}
+use borrow.Author.Tests.{eq-eqb, lt-ltb}
+use Rattle.device.specs.Device.{has, talks, mostData}
+use Rattle.device.specs.PowerOn.{bytesFrom}
+use Rattle.device.specs.Change.{listening, talking, placed, serving, noting, loading, statusing}
+use Rattle.device.specs.declared.Device.{Device}
+use Rattle.device.proofs.Bytes.{bytes-wide}
+use Rattle.record.specs.Record.{zeros}
+use Rattle.record.specs.Fits.{Bytes}
+use Rattle.record.proofs.Laws.{bytes-small}
+use Rattle.keeps.proofs.Zeros.{padded-zero}
+use Rattle.keeps.proofs.Groups.{Kept, Listens, Serves, Placed, Talks, Loads, Sized, eq-in, lt-in, only-in}
+use Rattle.record.proofs.Both.{both-true}
+
+-- nothing is being sent
+pub rested : (d : Device) (x : ℕ) → x ≤ 1 → (x ≡ 1 → talks d ≡ true) → Talks (talking d x)
+rested d x m h =
+    record {
+      talker = omega arith;
+      noted = omega arith;
+      last = omega arith;
+      addressed = h;
+      sendsData = λ e. absurd (omega arith);
+      sendsStatus = λ e. absurd (omega arith);
+      sendsID = λ e. absurd (omega arith);
+      sendsAccessory = λ e. absurd (omega arith);
+      some = λ e. absurd (omega arith);
+      one3 = λ e. absurd (omega arith);
+      one5 = λ e. absurd (omega arith);
+      within = λ e. absurd (omega arith);
+      none = λ e. refl;
+      quiet = λ e. (refl, refl);
+    }
+
+module _ (d : Device) (k : Kept d) where
+  pub listening-kept : (x : ℕ) → x ≤ 1 → (x ≡ 1 → has d 1 ≡ true) → Kept (listening d x)
+  listening-kept x m h =
+      record {
+        sized = k .sized;
+        made = k .made;
+        placed = k .placed;
+        listens = record { listener = m; able = eq-in h };
+        serves = k .serves;
+        loads = k .loads;
+        talks = k .talks;
+      }
+
+  -- idle or addressed
+  pub resting-kept : (x : ℕ) → x ≤ 1 → (x ≡ 1 → talks d ≡ true) → Kept (talking d x)
+  resting-kept x m h =
+      record {
+        sized = k .sized;
+        made = k .made;
+        placed = k .placed;
+        listens = k .listens;
+        serves = k .serves;
+        loads = k .loads;
+        talks = rested d x m h;
+      }
+
+  -- the fixed address and unconfigured, or an address 0-30 and configured
+  pub placed-kept : (a x : ℕ) → a ≤ 31 → x ≤ 1 → (x ≡ 0 → a ≡ d .fixed) → (x ≡ 1 → has d 32 ≡ true) → (x ≡ 1 → a < 31) → Kept (placed d a x)
+  placed-kept a x m n f h b =
+      record {
+        sized = k .sized;
+        made = k .made;
+        placed =
+            record {
+              address = m;
+              configured = n;
+              unconf = eq-in (λ e. eq-eqb _ _ (f e));
+              conf = eq-in (λ e. both-true (h e) (lt-ltb _ _ (b e)));
+            };
+        listens = k .listens;
+        serves = k .serves;
+        loads = k .loads;
+        talks = k .talks;
+      }
+
+  pub serving-kept : (x : ℕ) → x ≤ 2 → (0 < x → has d 128 ≡ true) → Kept (serving d x)
+  serving-kept x m h =
+      record {
+        sized = k .sized;
+        made = k .made;
+        placed = k .placed;
+        listens = k .listens;
+        serves = record { service = m; able = lt-in h };
+        loads = k .loads;
+        talks = k .talks;
+      }
+
+  pub noting-kept : 1 < d .talker → Kept (noting d)
+  noting-kept h =
+      let t = k .talks in
+      record {
+        sized = k .sized;
+        made = k .made;
+        placed = k .placed;
+        listens = k .listens;
+        serves = k .serves;
+        loads = k .loads;
+        talks =
+            record {
+              talker = t .talker;
+              noted = omega arith;
+              last = t .last;
+              addressed = t .addressed;
+              sendsData = t .sendsData;
+              sendsStatus = t .sendsStatus;
+              sendsID = t .sendsID;
+              sendsAccessory = t .sendsAccessory;
+              some = t .some;
+              one3 = t .one3;
+              one5 = t .one5;
+              within = t .within;
+              none = t .none;
+              quiet = λ e. absurd (omega arith);
+            };
+      }
+
+  -- data for a device that is not sending any: what is past its end is zero
+  pub loading-kept : (bs : List ℕ) → Bytes bs → length bs ≤ 32 → has d 2 ≡ true → (d .talker ≡ 2 → ⊥) → Kept (loading d bs)
+  loading-kept bs b m h n =
+      let t = k .talks in
+      record {
+        sized =
+            record {
+              status = k .sized .status;
+              accessory = k .sized .accessory;
+              id = k .sized .id;
+              load = bytes-small bs 0 mostData b;
+              idsize = k .sized .idsize;
+              loadsize = bytes-wide 0 mostData bs;
+            };
+        made = k .made;
+        placed = k .placed;
+        listens = k .listens;
+        serves = k .serves;
+        loads =
+            record {
+              loadlength = m;
+              loadzero = padded-zero bs mostData;
+              able = only-in (ltb 0 (length bs)) (has d 2) (λ e. h);
+              sent = omega arith;
+            };
+        talks =
+            record {
+              talker = t .talker;
+              noted = t .noted;
+              last = t .last;
+              addressed = t .addressed;
+              sendsData = t .sendsData;
+              sendsStatus = t .sendsStatus;
+              sendsID = t .sendsID;
+              sendsAccessory = t .sendsAccessory;
+              some = λ e. absurd (n e);
+              one3 = t .one3;
+              one5 = t .one5;
+              within = t .within;
+              none = t .none;
+              quiet = t .quiet;
+            };
+      }
+
+  pub statusing-kept : (s : ℕ) → s < 256 → Kept (statusing d s)
+  statusing-kept s h =
+      record {
+        sized =
+            record {
+              status = h;
+              accessory = k .sized .accessory;
+              id = k .sized .id;
+              load = k .sized .load;
+              idsize = k .sized .idsize;
+              loadsize = k .sized .loadsize;
+            };
+        made = k .made;
+        placed = k .placed;
+        listens = k .listens;
+        serves = k .serves;
+        loads = k .loads;
+        talks = k .talks;
+      }

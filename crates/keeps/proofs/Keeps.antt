@@ -1,0 +1,269 @@
+-- The theorems of specs/Keeps.antt: rule by rule in the papers' order, and then whichever rule the frame's kind selects.
+use Prim.Native.Nat.{ℕ, _+_, _-_, _≤_, _<_}
+use mathlib.Core.Path.{_≡_, refl, sym, ap, _∙_}
+use mathlib.Core.Bool.{Bool, true, false}
+use mathlib.Core.List.{List, [], _∷_}
+use native.Mathlib.Omega.{arith}
+use lib.Dec.{eqb, ltb}
+use lib.ListN.{length}
+use borrow.Author.Tests.{eqb-true, eqb-false, ltb-true, ltb-false}
+use Rattle.frame.specs.declared.Kind.the-variants.{Aad}
+use Rattle.frame.specs.Messages.{numberOf, kindAt, firstOf, codesOf, messages, firstIn, codesIn}
+use Rattle.frame.proofs.Rows.{within-kind}
+use Rattle.device.specs.Choose.{choose}
+use Rattle.device.specs.Device.{has, talks, sendData, status, deviceID, accessoryID, sending}
+use Rattle.device.specs.Change.{listening, talking}
+use Rattle.device.specs.Commands.{lad, tad, ifc, aau}
+use Rattle.device.specs.Reply.{sends, marked, eto, ete, continues}
+use Rattle.device.specs.Ready.{requested, polls, sst, nrd, aad}
+use Rattle.device.specs.Data.{returned, heard, dataOrEnd}
+use Rattle.device.specs.Take.{Rule, number, rules, select, takes}
+use Rattle.device.specs.Local.{loads, setsStatus, wishing, wishes}
+use Rattle.device.specs.declared.Device.{Device}
+use Rattle.device.specs.declared.Sent.{Sent}
+use Rattle.device.specs.declared.Called.{Called}
+use Rattle.record.specs.Fits.{Good}
+use Rattle.keeps.specs.Keeps.{TakeKeeps, TakeBelow, LoadKeeps, StatusKeeps, WishKeeps, LeavingZeroes}
+use Rattle.keeps.proofs.Groups.{Kept, kept-of, good-of, lt-out}
+use Rattle.keeps.proofs.Changes.{listening-kept, resting-kept, placed-kept, serving-kept, noting-kept, loading-kept, statusing-kept}
+use Rattle.keeps.proofs.Replies.{chosen, Out, marked-below, Others, others, Sends, stops-out, continues-out}
+
+-- the frame goes on, and the device after it is sound
+passes : (d : Device) (f : ℕ) → Kept d → Out f (sends d f)
+passes d f k = record { device = k; frame = λ i. i }
+
+-- ---- commands
+
+module _ (d : Device) (k : Kept d) where
+  idle-kept : Kept (talking d 0)
+  idle-kept = resting-kept d k 0 (omega arith) (λ e. absurd (omega arith))
+
+  deaf-kept : Kept (listening d 0)
+  deaf-kept = listening-kept d k 0 (omega arith) (λ e. absurd (omega arith))
+
+  ifc-kept : Kept (ifc d)
+  ifc-kept = resting-kept (listening d 0) deaf-kept 0 (omega arith) (λ e. absurd (omega arith))
+
+  lad-kept : (a : ℕ) → Kept (lad d a)
+  unfolding lad
+  lad-kept a =
+      chosen Kept (eqb a (d .address)) _ d
+      (λ e. chosen Kept (has d 1) _ d (λ h. heard-kept h) (λ h. k))
+      (λ e. k)
+    where
+      heard-kept : has d 1 ≡ true → Kept (choose (has d 64) (talking (listening d 1) 0) (listening d 1))
+      heard-kept h =
+          let l : Kept (listening d 1) = listening-kept d k 1 (omega arith) (λ e. h) in
+          chosen Kept (has d 64) _ _ (λ u. resting-kept (listening d 1) l 0 (omega arith) (λ e. absurd (omega arith))) (λ u. l)
+
+  tad-kept : (a : ℕ) → Kept (tad d a)
+  unfolding tad
+  tad-kept a =
+      chosen Kept (eqb a (d .address)) _ (talking d 0)
+      (λ e. chosen Kept (talks d) _ (talking d 0) (λ h. talk-kept h) (λ h. idle-kept))
+      (λ e. idle-kept)
+    where
+      talk-kept : talks d ≡ true → Kept (choose (has d 64) (talking (listening d 0) 1) (talking d 1))
+      talk-kept h =
+          chosen Kept (has d 64) _ _
+          (λ u. resting-kept (listening d 0) deaf-kept 1 (omega arith) (λ e. h))
+          (λ u. resting-kept d k 1 (omega arith) (λ e. h))
+
+  aau-kept : Kept (aau d)
+  unfolding aau
+  aau-kept =
+      chosen Kept (has d 32) _ d
+      (λ h. placed-kept d k (d .fixed) 0 (k .made .fixed) (omega arith) (λ e. refl) (λ e. absurd (omega arith)) (λ e. absurd (omega arith)))
+      (λ h. k)
+
+-- ---- ready frames
+
+-- a device about to send in state 2, 3, 4 or 5
+module _ (d : Device) (k : Kept d) where
+  about : (s : ℕ) → 1 < s → s ≤ 5 → (s ≡ 2 → has d 2 ≡ true) → (s ≡ 3 → has d 4 ≡ true) → (s ≡ 4 → has d 8 ≡ true) →
+      (s ≡ 5 → has d 16 ≡ true) → Sends (talking d s)
+  about s l h a b c e =
+      record { low = l; high = h; noted = omega arith; asData = a; asStatus = b; asID = c; asAccessory = e; none = λ i. refl }
+
+  to-data : has d 2 ≡ true → Sends (talking d 2)
+  to-data h = about 2 (omega arith) (omega arith) (λ e. h) (λ e. absurd (omega arith)) (λ e. absurd (omega arith)) (λ e. absurd (omega arith))
+
+  to-status : has d 4 ≡ true → Sends (talking d 3)
+  to-status h = about 3 (omega arith) (omega arith) (λ e. absurd (omega arith)) (λ e. h) (λ e. absurd (omega arith)) (λ e. absurd (omega arith))
+
+  to-id : has d 8 ≡ true → Sends (talking d 4)
+  to-id h = about 4 (omega arith) (omega arith) (λ e. absurd (omega arith)) (λ e. absurd (omega arith)) (λ e. h) (λ e. absurd (omega arith))
+
+  to-accessory : has d 16 ≡ true → Sends (talking d 5)
+  to-accessory h = about 5 (omega arith) (omega arith) (λ e. absurd (omega arith)) (λ e. absurd (omega arith)) (λ e. absurd (omega arith)) (λ e. h)
+
+  requested-out : (f ability state : ℕ) → (has d ability ≡ true → Sends (talking d state)) → Out f (requested d f ability state)
+  unfolding requested
+  requested-out f ability state s =
+      chosen (Out f) (eqb (d .talker) 1) _ _
+      (λ e. chosen (Out f) (has d ability) _ _ (λ h. continues-out (talking d state) (others d k) (s h) f) (λ h. passes d f k))
+      (λ e. passes d f k)
+
+  polls-kept : Kept (polls d)
+  unfolding polls
+  polls-kept =
+      chosen Kept (eqb (d .service) 1) _ d
+      (λ e. let z : d .service ≡ 1 = eqb-true _ _ e in serving-kept d k 2 (omega arith) (λ i. asks z))
+      (λ e. k)
+    where
+      asks : d .service ≡ 1 → has d 128 ≡ true
+      asks z = lt-out {m = 0} {n = d .service} (k .serves .able) (omega arith)
+
+  polls-able : (b : Bool) → has d 4 ≡ b → has (polls d) 4 ≡ b
+  unfolding polls
+  polls-able b h = chosen (λ x. has x 4 ≡ b) (eqb (d .service) 1) _ d (λ e. h) (λ e. h)
+
+module _ (d : Device) (k : Kept d) (f : ℕ) where
+  sst-out : Out f (sst d f)
+  unfolding sst
+  sst-out =
+      chosen (Out f) (eqb (d .talker) 1) _ _
+      (λ e. chosen (Out f) (has d status) _ _
+      (λ h. continues-out (talking (polls d) 3) (others (polls d) (polls-kept d k)) (to-status (polls d) (polls-kept d k) (polls-able d k true h)) f)
+      (λ h. passes d f k))
+      (λ e. passes d f k)
+
+  nrd-kept : Kept (nrd d)
+  unfolding nrd
+  nrd-kept = chosen Kept (sending d) _ d (λ e. noting-kept d k (ltb-true _ _ e)) (λ e. k)
+
+  -- an address taken is 0 to 30, and so the frame plus one is a frame
+  aad-out : kindAt f ≡ 34 → Out f (aad d f (number Aad f))
+  unfolding aad firstOf codesOf messages firstIn codesIn
+  aad-out e =
+      let w = within-kind f 34 e (omega arith) in
+      let lo : 1408 ≤ f = w .0 in
+      let hi : f < 1439 = w .1 in
+      chosen (Out f) (eqb (d .configured) 0) _ _
+      (λ c. chosen (Out f) (has d 32) _ _
+      (λ h. record {
+        device = placed-kept d k (f - 1408) 1 (omega arith) (omega arith) (λ i. absurd (omega arith)) (λ i. h) (λ i. omega arith);
+        frame = λ i. omega arith;
+      })
+      (λ h. passes d f k))
+      (λ c. passes d f k)
+
+  -- ---- data or end, and identify
+
+  still : 1 < d .talker → Sends d
+  still h =
+      let t = k .talks in
+      record {
+        low = h;
+        high = t .talker;
+        noted = t .noted;
+        asData = t .sendsData;
+        asStatus = t .sendsStatus;
+        asID = t .sendsID;
+        asAccessory = t .sendsAccessory;
+        none = λ e. t .none (omega arith);
+      }
+
+  returned-out : 1 < d .talker → Out f (returned d f)
+  unfolding returned
+  returned-out h =
+      let o = others d k in
+      chosen (Out f) _ _ _
+      (λ e. chosen (Out f) (eqb (d .noted) 1) _ _ (λ i. stops-out d o (still h) f eto (omega arith)) (λ i. continues-out d o (still h) f))
+      (λ e. stops-out d o (still h) f ete (omega arith))
+
+  marked-out : Out f (sends d (marked d f))
+  marked-out = record { device = k; frame = λ i. marked-below d f 4 (omega arith) }
+
+  heard-out : Out f (heard d f)
+  unfolding heard
+  heard-out = chosen (Out f) (eqb (d .listener) 1) _ _ (λ e. record { device = k; frame = λ i. marked-below d f 4 (omega arith) }) (λ e. marked-out)
+
+  data-out : Out f (dataOrEnd d f)
+  unfolding dataOrEnd
+  data-out = chosen (Out f) (sending d) _ _ (λ e. returned-out (ltb-true _ _ e)) (λ e. heard-out)
+
+-- ---- whichever rule is selected
+
+abbrev Each : (Rule → Type 0) → List Rule → Type 0
+Each P [] = Unit {0}
+Each P (r ∷ rs) = P r × Each P rs
+
+selected : (P : Sent → Type 0) (k : ℕ) (rs : List Rule) (s : Sent) → Each (λ r. k ≡ r .kind → P (r .gives)) rs → P s → P (select k rs s)
+selected P k [] s e h = h
+selected P k (r ∷ rs) s e h = chosen P (eqb k (r .kind)) _ _ (λ t. e .0 (eqb-true _ _ t)) (λ t. selected P k rs s (e .1) h)
+
+take-out : (d : Device) (f : ℕ) → Kept d → Out f (takes d f)
+unfolding takes
+take-out d f k =
+    let go : (e : Device) → Kept e → Out f (sends e f) = λ e h. passes e f h in
+    selected (Out f) (kindAt f) (rules d f) (sends d f) (
+      λ e. go _ (lad-kept d k _),
+      (
+        λ e. go _ (deaf-kept d k),
+        (
+          λ e. go _ (tad-kept d k _),
+          (
+            λ e. go _ (idle-kept d k),
+            (
+              λ e. go _ (ifc-kept d k),
+              (
+                λ e. go _ (aau-kept d k),
+                (
+                  λ e. requested-out d k f 2 2 (to-data d k),
+                  (
+                    λ e. sst-out d k f,
+                    (
+                      λ e. requested-out d k f 8 4 (to-id d k),
+                      (
+                        λ e. requested-out d k f 16 5 (to-accessory d k),
+                        (λ e. go _ (nrd-kept d k f), (λ e. aad-out d k f e, (λ e. data-out d k f, (λ e. data-out d k f, (λ e. marked-out d k f, tt))))),
+                      ),
+                    ),
+                  ),
+                ),
+              ),
+            ),
+          ),
+        ),
+      ),
+    )
+    (passes d f k)
+
+-- ---- the theorems
+
+pub take-keeps : TakeKeeps
+take-keeps d f g = good-of (takes d f .device) (take-out d f (kept-of d g) .device)
+
+pub take-below : TakeBelow
+take-below d f g h = take-out d f (kept-of d g) .frame h
+
+pub leaving-zeroes : LeavingZeroes
+leaving-zeroes d f g h =
+    let t = take-out d f (kept-of d g) .device .talks in (t .quiet h .0, t .quiet h .1, t .none (omega arith))
+
+pub take-good : (d : Device) (f : ℕ) → Good d → f < 2048 → Good (takes d f .device) × (takes d f .frame < 2048)
+take-good d f g h = (take-keeps d f g, take-below d f g h)
+
+pub load-good : LoadKeeps
+unfolding loads
+load-good d bs b g =
+    chosen (λ (c : Called). Good (c .device)) (has d sendData) _ _
+    (λ h. chosen (λ (c : Called). Good (c .device)) (ltb 32 (length bs)) _ _ (λ e. g)
+    (λ e. chosen (λ (c : Called). Good (c .device)) (eqb (d .talker) 2) _ _ (λ i. g)
+    (λ i. good-of _ (loading-kept d (kept-of d g) bs b (ltb-false _ _ e) h (eqb-false _ _ i)))))
+    (λ h. g)
+
+pub status-good : StatusKeeps
+unfolding setsStatus
+status-good d s b g =
+    chosen (λ (c : Called). Good (c .device)) (has d status) _ _ (λ h. good-of _ (statusing-kept d (kept-of d g) s b)) (λ h. g)
+
+pub wish-good : WishKeeps
+unfolding wishes wishing
+wish-good d w g =
+    chosen (λ (c : Called). Good (c .device)) (has d 128) _ _
+    (λ h. chosen Good (eqb w 0) _ _
+    (λ e. good-of _ (serving-kept d (kept-of d g) 0 (omega arith) (λ i. h)))
+    (λ e. chosen Good (eqb (d .service) 0) _ d (λ i. good-of _ (serving-kept d (kept-of d g) 1 (omega arith) (λ i. h))) (λ i. g)))
+    (λ h. g)

@@ -1,0 +1,201 @@
+-- A talker's replies keep it sound: what it sends is a byte with its bits, and it counts no further than the reply is long.
+use Prim.Native.Nat.{ℕ, zero, suc, _+_, _*_, _/_, _%_, _≤_, _<_}
+use mathlib.Core.Path.{_≡_, refl, sym, _∙_}
+use mathlib.Core.Bool.{Bool, true, false, _||_}
+use native.Mathlib.Omega.{arith}
+use lib.Dec.{eqb, ltb}
+use lib.ListN.{getD}
+use borrow.Author.Tests.{eqb-true, eqb-false, ltb-true, ltb-false, eq-eqb, ne-eqb}
+use Rattle.device.specs.Choose.{choose}
+use Rattle.device.specs.Device.{has, talks}
+use Rattle.device.specs.Change.{talking}
+use Rattle.device.specs.Reply.{eto, marked, stops, dataFrame, otherByte, otherLength, sendsData, sendsOther, continues}
+use Rattle.device.specs.declared.Device.{Device}
+use Rattle.device.specs.declared.Sent.{Sent}
+use Rattle.keeps.proofs.Groups.{Kept, Sized, Made, Placed, Listens, Serves, Loads}
+use Rattle.keeps.proofs.Changes.{rested}
+
+-- what holds of both values holds of the one that is chosen
+pub chosen : {A : Type 0} (P : A → Type 0) (b : Bool) (x y : A) → (b ≡ true → P x) → (b ≡ false → P y) → P (choose b x y)
+unfolding choose
+chosen P true x y h k = h refl
+chosen P false x y h k = k refl
+
+-- a sound device and, where f is below 2,048, a frame below 2,048
+pub record Out (f : ℕ) (s : Sent) : Type 0 where
+  pub device : Kept (s .device)
+  pub frame : f < 2048 → s .frame < 2048
+
+clear : (f m : ℕ) → (f / 256 % 2 ≡ 1 → ⊥) → f < 512 * m → f + 256 < 512 * m
+clear f m e h = omega arith
+
+-- C1 set or not, a frame stays below a multiple of 512
+pub marked-below : (d : Device) (f m : ℕ) → f < 512 * m → marked d f < 512 * m
+unfolding marked
+marked-below d f m h =
+    chosen (λ x. x < 512 * m) (eqb (d .service) 1) _ f
+    (λ e. chosen (λ x. x < 512 * m) (eqb (f / 256 % 2) 1) f (f + 256) (λ e. h) (λ e. clear f m (eqb-false (f / 256 % 2) 1 e) h))
+    (λ e. h)
+
+-- all groups but the talker's
+abbrev pub Others : Device → Type 0
+Others d =
+    record { sized : Sized d; made : Made d; placed : Placed d; listens : Listens d; serves : Serves d; loads : Loads d }
+
+pub others : (d : Device) → Kept d → Others d
+others d k =
+    record {
+      sized = k .sized;
+      made = k .made;
+      placed = k .placed;
+      listens = k .listens;
+      serves = k .serves;
+      loads = k .loads;
+    }
+
+-- a device that may send: in a sending state with its ability
+pub record Sends (d : Device) : Type 0 where
+  pub low : 1 < d .talker
+  pub high : d .talker ≤ 5
+  pub noted : d .noted ≤ 1
+  pub asData : d .talker ≡ 2 → has d 2 ≡ true
+  pub asStatus : d .talker ≡ 3 → has d 4 ≡ true
+  pub asID : d .talker ≡ 4 → has d 8 ≡ true
+  pub asAccessory : d .talker ≡ 5 → has d 16 ≡ true
+  pub none : d .talker ≡ 2 → d .replied ≡ 0
+
+or-left : (a b : Bool) → a ≡ true → (a || b) ≡ true
+or-left true b e = refl
+or-left false b e = let z : false ≡ true = e in cc
+
+or-right : (a b : Bool) → b ≡ true → (a || b) ≡ true
+or-right true b e = refl
+or-right false b e = e
+
+-- whatever it sends, it talks
+sends-talks : (d : Device) → Sends d → talks d ≡ true
+sends-talks d s = go (d .talker) refl
+  where
+    go : (t : ℕ) → d .talker ≡ t → talks d ≡ true
+    go zero e = absurd (omega (arith, s .low))
+    go (suc zero) e = absurd (omega (arith, s .low))
+    go (suc (suc zero)) e = or-left (has d 2) (has d 4 || (has d 8 || has d 16)) (s .asData e)
+    go (suc (suc (suc zero))) e = or-right (has d 2) _ (or-left (has d 4) (has d 8 || has d 16) (s .asStatus e))
+    go (suc (suc (suc (suc zero)))) e = or-right (has d 2) _ (or-right (has d 4) _ (or-left (has d 8) (has d 16) (s .asID e)))
+    go (suc (suc (suc (suc (suc zero))))) e = or-right (has d 2) _ (or-right (has d 4) _ (or-right (has d 8) (has d 16) (s .asAccessory e)))
+    go (suc (suc (suc (suc (suc (suc t)))))) e = absurd (omega (arith, s .high))
+
+module _ (d : Device) (o : Others d) (s : Sends d) where
+  data-below : dataFrame d < 1024
+  unfolding dataFrame
+  data-below =
+      chosen (λ x. x < 1024) (eqb (d .sent + 1) (d .loadlength)) _ _
+      (λ e. marked-below d (getD (d .load) (d .sent) 0 + 512) 2 (omega (arith, o .sized .load (d .sent))))
+      (λ e. marked-below d (getD (d .load) (d .sent) 0) 2 (omega (arith, o .sized .load (d .sent))))
+
+  other-below : marked d (otherByte d) < 1024
+  unfolding otherByte
+  other-below =
+      marked-below d (otherByte d) 2
+      (chosen (λ x. x < 1024) (eqb (d .talker) 3) (d .status) _ (λ e. omega (arith, o .sized .status))
+      (λ e. chosen (λ x. x < 1024) (eqb (d .talker) 4) (getD (d .id) (d .replied) 0) (d .accessory)
+      (λ e. omega (arith, o .sized .id (d .replied))) (λ e. omega (arith, o .sized .accessory))))
+
+  id-long : d .talker ≡ 4 → otherLength d ≡ d .idlength
+  unfolding otherLength choose
+  id-long e = rw (eq-eqb _ _ e)
+
+  one-long : (d .talker ≡ 4 → ⊥) → otherLength d ≡ 1
+  unfolding otherLength choose
+  one-long e = rw (ne-eqb _ _ e)
+
+  data-kept : d .talker ≡ 2 → d .sent < d .loadlength → Kept (sendsData d .device)
+  unfolding sendsData
+  data-kept e h =
+      let l = o .loads in
+      record {
+        sized = o .sized;
+        made = o .made;
+        placed = o .placed;
+        listens = o .listens;
+        serves = o .serves;
+        loads = record { loadlength = l .loadlength; loadzero = l .loadzero; able = l .able; sent = omega arith };
+        talks =
+            record {
+              talker = s .high;
+              noted = s .noted;
+              last = data-below;
+              addressed = λ i. absurd (omega arith);
+              sendsData = s .asData;
+              sendsStatus = s .asStatus;
+              sendsID = s .asID;
+              sendsAccessory = s .asAccessory;
+              some = λ i. omega arith;
+              one3 = λ i. absurd (omega arith);
+              one5 = λ i. absurd (omega arith);
+              within = λ i. absurd (omega arith);
+              none = λ i. s .none e;
+              quiet = λ i. absurd (omega arith);
+            };
+      }
+
+  other-kept : (d .talker ≡ 2 → ⊥) → d .replied < otherLength d → Kept (sendsOther d .device)
+  unfolding sendsOther
+  other-kept n h =
+      record {
+        sized = o .sized;
+        made = o .made;
+        placed = o .placed;
+        listens = o .listens;
+        serves = o .serves;
+        loads = o .loads;
+        talks =
+            record {
+              talker = s .high;
+              noted = s .noted;
+              last = other-below;
+              addressed = λ i. absurd (omega (arith, s .low));
+              sendsData = s .asData;
+              sendsStatus = s .asStatus;
+              sendsID = s .asID;
+              sendsAccessory = s .asAccessory;
+              some = λ i. absurd (n i);
+              one3 = λ i. omega (arith, one-long (λ j. omega arith));
+              one5 = λ i. omega (arith, one-long (λ j. omega arith));
+              within = λ i. (omega arith, omega (arith, id-long i));
+              none = λ i. let z : d .talker ≡ 2 = omega (arith, s .low) in absurd (n z);
+              quiet = λ i. absurd (omega (arith, s .low));
+            };
+      }
+
+  -- it stops with an answer below 2,048
+  pub stops-out : (f e : ℕ) → e < 2048 → Out f (stops d e)
+  stops-out f e h =
+      record {
+        device =
+            record {
+              sized = o .sized;
+              made = o .made;
+              placed = o .placed;
+              listens = o .listens;
+              serves = o .serves;
+              loads = o .loads;
+              talks = rested d 1 (omega arith) (λ i. sends-talks d s);
+            };
+        frame = λ i. h;
+      }
+
+  data-out : (f : ℕ) → d .talker ≡ 2 → d .sent < d .loadlength → Out f (sendsData d)
+  unfolding sendsData
+  data-out f e h = record { device = data-kept e h; frame = λ i. omega (arith, data-below) }
+
+  other-out : (f : ℕ) → (d .talker ≡ 2 → ⊥) → d .replied < otherLength d → Out f (sendsOther d)
+  unfolding sendsOther
+  other-out f e h = record { device = other-kept e h; frame = λ i. omega (arith, other-below) }
+
+  pub continues-out : (f : ℕ) → Out f (continues d)
+  unfolding continues
+  continues-out f =
+      chosen (Out f) (eqb (d .talker) 2) _ _
+      (λ e. chosen (Out f) (ltb (d .sent) (d .loadlength)) _ _ (λ h. data-out f (eqb-true _ _ e) (ltb-true _ _ h)) (λ h. stops-out f eto (omega arith)))
+      (λ e. chosen (Out f) (ltb (d .replied) (otherLength d)) _ _ (λ h. other-out f (eqb-false _ _ e) (ltb-true _ _ h)) (λ h. stops-out f eto (omega arith)))

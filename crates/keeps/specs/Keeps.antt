@@ -1,0 +1,34 @@
+-- A sound device stays sound, whatever it is given: statements, proved in proofs/Keeps.antt.
+use Prim.Native.Nat.{ℕ, suc, _<_, _≤_}
+use mathlib.Core.Path.{_≡_}
+use mathlib.Core.List.{List, []}
+use Rattle.frame.specs.Messages.{frames}
+use Rattle.device.specs.Device.{addressed}
+use Rattle.device.specs.Take.{takes}
+use Rattle.device.specs.Local.{loads, setsStatus, wishes}
+use Rattle.device.specs.declared.Device.{Device}
+use Rattle.record.specs.Fits.{Bytes, Good}
+
+-- A frame taken keeps a sound device sound, for every number taken for a frame
+abbrev pub TakeKeeps : Type 0
+TakeKeeps = (d : Device) (f : ℕ) → Good d → Good (takes d f .device)
+
+-- and a frame below 2,048 gives a frame below 2,048
+abbrev pub TakeBelow : Type 0
+TakeBelow = (d : Device) (f : ℕ) → Good d → f < frames → takes d f .frame < frames
+
+-- Each local call, refused or not, keeps a sound device sound
+abbrev pub LoadKeeps : Type 0
+LoadKeeps = (d : Device) (bs : List ℕ) → Bytes bs → Good d → Good (loads d bs .device)
+
+abbrev pub StatusKeeps : Type 0
+StatusKeeps = (d : Device) (s : ℕ) → s < 256 → Good d → Good (setsStatus d s .device)
+
+abbrev pub WishKeeps : Type 0
+WishKeeps = (d : Device) (w : ℕ) → Good d → Good (wishes d w .device)
+
+-- Leaving states 2-5 zeroes bytes 8, 14, 15 and 16
+abbrev pub LeavingZeroes : Type 0
+LeavingZeroes =
+    (d : Device) (f : ℕ) → Good d → takes d f .device .talker ≤ addressed →
+    (takes d f .device .noted ≡ 0) × (takes d f .device .last ≡ 0) × (takes d f .device .replied ≡ 0)

@@ -1,0 +1,1 @@
+// Theorems only: a sound device stays sound. The statements are in specs/Keeps.antt.

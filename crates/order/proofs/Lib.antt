@@ -1,0 +1,12 @@
+pub mod Agree
+pub mod Drain
+pub mod Example
+pub mod Flat
+pub mod Idle
+pub mod Moves
+pub mod Order
+pub mod Owed
+pub mod Rounds
+pub mod Streams
+pub mod Through
+pub mod Written

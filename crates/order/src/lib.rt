@@ -1,0 +1,1 @@
+// The order of hops does not matter: theorems only, in specs/Order.antt. There is no code here.

@@ -1,0 +1,166 @@
+-- The laws of specs/Laws.antt. Head, ID and data stand at fixed places, so that each field is read where it was written; a sound
+-- record's other bytes are zero, as those of a written one are.
+use mathlib.Core.Path.{_≡_, refl, sym, ap, _∙_}
+use mathlib.Core.List.{List, [], _∷_, _++_}
+use mathlib.Core.Bool.{Bool, true, _&&_}
+use Prim.Native.Nat.{ℕ, zero, suc, _+_, _*_, _/_, _%_, _≤_, _<_}
+use native.Mathlib.Omega.{arith}
+use lib.Dec.{eqb}
+use lib.ListN.{length, getD, take, drop, replicate, length-take, length-drop, length-replicate, take-append-drop}
+use lib.Seq.{drop-drop, take-all}
+use borrow.Author.Tests.{eqb-true}
+use Rattle.device.specs.Device.{mostID, mostData}
+use Rattle.device.specs.PowerOn.{bytesFrom, powerOn}
+use Rattle.device.specs.declared.Device.{Device}
+use Rattle.device.proofs.Bytes.{bytes-wide, bytes-all, take-bytes}
+use Rattle.record.specs.Record.{headOf, deviceOf, recordOf, zeros}
+use Rattle.record.specs.Sound.{soundDevice, soundRecord, allowed}
+use Rattle.record.specs.Fits.{Bytes, Fits, Good}
+use Rattle.record.specs.Laws.{RecordWide, ReadWritten, WriteRead, WriteSound, ReadSound, PowerOnSound}
+use Rattle.record.proofs.Both.{left, right}
+
+pub record-wide : RecordWide
+unfolding recordOf bytesFrom
+record-wide d = refl
+
+-- the bytes of a little-endian number, and the number of its bytes
+low-of : (lo hi : ℕ) → lo < 256 → (lo + 256 * hi) % 256 ≡ lo
+low-of lo hi h = omega arith
+
+high-of : (lo hi : ℕ) → lo < 256 → (lo + 256 * hi) / 256 ≡ hi
+high-of lo hi h = omega arith
+
+whole : (f : ℕ) → f % 256 + 256 * (f / 256) ≡ f
+whole f = omega arith
+
+pub record-again : ReadWritten
+unfolding recordOf deviceOf bytesFrom
+record-again d f =
+    λ i. record {
+      abilities = d .abilities;
+      fixed = d .fixed;
+      address = d .address;
+      configured = d .configured;
+      listener = d .listener;
+      talker = d .talker;
+      service = d .service;
+      noted = d .noted;
+      status = d .status;
+      accessory = d .accessory;
+      idlength = d .idlength;
+      loadlength = d .loadlength;
+      sent = d .sent;
+      last = whole (d .last) i;
+      replied = d .replied;
+      id = sym (bytes-all mostID (d .id) (f .idsize)) i;
+      load = sym (bytes-all mostData (d .load) (f .loadsize)) i;
+    }
+
+-- seven zeros
+zeros-seven : (a b c d e f g : ℕ) → zeros (a ∷ b ∷ c ∷ d ∷ e ∷ f ∷ g ∷ []) ≡ true →
+    (a ≡ 0) × (b ≡ 0) × (c ≡ 0) × (d ≡ 0) × (e ≡ 0) × (f ≡ 0) × (g ≡ 0)
+unfolding zeros
+zeros-seven a b c d e f g h = (
+  eqb-true a 0 (search (left, right)),
+  eqb-true b 0 (search (left, right)),
+  eqb-true c 0 (search (left, right)),
+  eqb-true d 0 (search (left, right)),
+  eqb-true e 0 (search (left, right) depth 8),
+  eqb-true f 0 (search (left, right) depth 8),
+  eqb-true g 0 (search (left, right) depth 9),
+)
+
+module _ (b : List ℕ) (h : soundRecord b ≡ true) where
+  seventh : getD b 7 0 ≡ 0
+  unfolding soundRecord
+  seventh = eqb-true (getD b 7 0) 0 (left (eqb (getD b 7 0) 0) (zeros (take 7 (drop 17 b)) && soundDevice (deviceOf b)) h)
+
+  inner : (zeros (take 7 (drop 17 b)) && soundDevice (deviceOf b)) ≡ true
+  unfolding soundRecord
+  inner = right (eqb (getD b 7 0) 0) (zeros (take 7 (drop 17 b)) && soundDevice (deviceOf b)) h
+
+  spare : zeros (take 7 (drop 17 b)) ≡ true
+  spare = left (zeros (take 7 (drop 17 b))) (soundDevice (deviceOf b)) inner
+
+  device-sound : soundDevice (deviceOf b) ≡ true
+  device-sound = right (zeros (take 7 (drop 17 b))) (soundDevice (deviceOf b)) inner
+
+three : (b : List ℕ) → length b ≡ 64 → take 24 b ++ (take 8 (drop 24 b) ++ take 32 (drop 32 b)) ≡ b
+three b len =
+    rw (← (drop-drop 8 24 b), take-all 32 (drop 8 (drop 24 b)) (simp (length-drop, len) (omega arith)), take-append-drop, take-append-drop)
+
+head-back : (b : List ℕ) → length b ≡ 64 → Bytes b → soundRecord b ≡ true → headOf (deviceOf b) ≡ take 24 (drop 0 b)
+unfolding deviceOf bytesFrom
+head-back b len small h =
+    let s : zeros (bytesFrom 17 7 b) ≡ true = rw (take-bytes 7 17 b (omega arith)) at (spare b h) in
+    let z = zeros-seven (getD b 17 0) (getD b 18 0) (getD b 19 0) (getD b 20 0) (getD b 21 0) (getD b 22 0) (getD b 23 0) s in
+    let lo = low-of (getD b 14 0) (getD b 15 0) (small 14) in
+    let hi = high-of (getD b 14 0) (getD b 15 0) (small 14) in
+    let e : headOf (deviceOf b) ≡ bytesFrom 0 24 b = simp (lo, hi, seventh b h, z .0, z .1, z .2, z .3, z .4, z .5, z .6) in
+    e ∙ sym (take-bytes 24 0 b (omega arith))
+
+-- a stretch of the record, read and written
+stretch-back : (b : List ℕ) (k n : ℕ) → k + n ≤ length b → bytesFrom 0 n (bytesFrom k n b) ≡ take n (drop k b)
+stretch-back b k n h = sym (bytes-all n (bytesFrom k n b) (bytes-wide k n b)) ∙ sym (take-bytes n k b h)
+
+pub record-back : WriteRead
+unfolding recordOf deviceOf
+record-back b len small h =
+    rw (stretch-back b 24 8 (omega arith), stretch-back b 32 32 (omega arith))
+    (ap (λ (x : List ℕ). x ++ (take 8 (drop 24 b) ++ take 32 (drop 32 b))) (head-back b len small h) ∙ three b len)
+
+spared : (d : Device) → soundDevice d ≡ true → (eqb (getD (recordOf d) 7 0) 0 && (zeros (take 7 (drop 17 (recordOf d))) && soundDevice d)) ≡ true
+unfolding recordOf zeros
+spared d s = s
+
+pub record-sound : WriteSound
+unfolding soundRecord
+record-sound d f s = rw (record-again d f) (spared d s)
+
+-- the bytes of a list of bytes are bytes
+pub bytes-small : (b : List ℕ) (k n : ℕ) → Bytes b → Bytes (bytesFrom k n b)
+unfolding bytesFrom
+bytes-small b k zero h i = omega arith
+bytes-small b k (suc n) h zero = h k
+bytes-small b k (suc n) h (suc i) = bytes-small b (suc k) n h i
+
+read-fits : (b : List ℕ) → Bytes b → Fits (deviceOf b)
+unfolding deviceOf
+read-fits b h =
+    record {
+      status = h 9;
+      accessory = h 10;
+      id = bytes-small b 24 mostID h;
+      load = bytes-small b 32 mostData h;
+      idsize = bytes-wide 24 mostID b;
+      loadsize = bytes-wide 32 mostData b;
+    }
+
+pub read-good : ReadSound
+read-good b h s = record { fits = read-fits b h; sound = device-sound b s }
+
+-- a device all zero
+pub blank-good : Good (deviceOf [])
+unfolding deviceOf soundDevice bytesFrom zeros
+blank-good = record { fits = read-fits [] (λ i. omega arith); sound = refl }
+
+zeros-small : (n : ℕ) → Bytes (replicate n 0)
+zeros-small zero i = omega arith
+zeros-small (suc n) zero = omega arith
+zeros-small (suc n) (suc i) = zeros-small n i
+
+pub power-good : PowerOnSound
+unfolding allowed powerOn
+power-good item h a =
+    record {
+      fits =
+          record {
+            status = omega arith;
+            accessory = h 2;
+            id = bytes-small item 4 mostID h;
+            load = zeros-small mostData;
+            idsize = bytes-wide 4 mostID item;
+            loadsize = length-replicate {A = ℕ} mostData 0;
+          };
+      sound = a;
+    }

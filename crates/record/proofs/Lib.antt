@@ -1,0 +1,4 @@
+pub mod Both
+pub mod Parts
+pub mod Zeros
+pub mod Laws

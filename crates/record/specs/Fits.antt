@@ -1,0 +1,26 @@
+-- What the types of the code's device say, said of the numbers of the definitions; and the devices that a sound area holds.
+use Prim.Native.Nat.{ℕ, _<_}
+use mathlib.Core.Path.{_≡_}
+use mathlib.Core.Bool.{true}
+use mathlib.Core.List.{List}
+use lib.ListN.{length, getD}
+use Rattle.device.specs.Device.{mostID, mostData}
+use Rattle.device.specs.declared.Device.{Device}
+use Rattle.record.specs.Sound.{soundDevice}
+
+-- each number of a list is a byte
+abbrev pub Bytes : List ℕ → Type 0
+Bytes b = (i : ℕ) → getD b i 0 < 256
+
+-- what is sent of a device is bytes, and its arrays have their lengths
+pub record Fits (d : Device) : Type 0 where
+  pub status : d .status < 256
+  pub accessory : d .accessory < 256
+  pub id : Bytes (d .id)
+  pub load : Bytes (d .load)
+  pub idsize : length (d .id) ≡ mostID
+  pub loadsize : length (d .load) ≡ mostData
+
+pub record Good (d : Device) : Type 0 where
+  pub fits : Fits d
+  pub sound : soundDevice d ≡ true

@@ -1,0 +1,35 @@
+-- The laws of records, as statements: reading and writing undo each other, and soundness is that of the device read.
+-- Their proofs are in proofs/Laws.antt.
+use Prim.Native.Nat.{ℕ}
+use mathlib.Core.Path.{_≡_}
+use mathlib.Core.Bool.{true}
+use mathlib.Core.List.{List}
+use lib.ListN.{length}
+use Rattle.device.specs.PowerOn.{powerOn}
+use Rattle.device.specs.declared.Device.{Device}
+use Rattle.record.specs.Record.{recordSize, deviceOf, recordOf}
+use Rattle.record.specs.Sound.{soundDevice, soundRecord, allowed}
+use Rattle.record.specs.Fits.{Bytes, Fits, Good}
+
+-- A record is 64 bytes
+abbrev pub RecordWide : Type 0
+RecordWide = (d : Device) → length (recordOf d) ≡ recordSize
+
+-- Reading a written device gives it back
+abbrev pub ReadWritten : Type 0
+ReadWritten = (d : Device) → Fits d → deviceOf (recordOf d) ≡ d
+
+-- Writing what was read gives a sound record back
+abbrev pub WriteRead : Type 0
+WriteRead = (b : List ℕ) → length b ≡ recordSize → Bytes b → soundRecord b ≡ true → recordOf (deviceOf b) ≡ b
+
+-- A sound device has a sound record, and a sound record holds a sound device
+abbrev pub WriteSound : Type 0
+WriteSound = (d : Device) → Fits d → soundDevice d ≡ true → soundRecord (recordOf d) ≡ true
+
+abbrev pub ReadSound : Type 0
+ReadSound = (b : List ℕ) → Bytes b → soundRecord b ≡ true → Good (deviceOf b)
+
+-- Power-on is sound where the item is allowed
+abbrev pub PowerOnSound : Type 0
+PowerOnSound = (item : List ℕ) → Bytes item → allowed item ≡ true → Good (powerOn item)

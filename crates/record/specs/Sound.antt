@@ -1,0 +1,116 @@
+-- When a record is sound, clause by clause in the order of 01's "Sound means"; the same clauses judge a set-up item.
+use Prim.Native.Nat.{ℕ}
+use mathlib.Core.List.{List}
+use mathlib.Core.Bool.{Bool, not, _&&_, _||_}
+use lib.Dec.{eqb, ltb, leb}
+use lib.ListN.{getD, take, drop}
+use Rattle.device.specs.Device.{listen, sendData, status, deviceID, accessoryID, autoAddress, unaddress, serviceRequest, addressed, sendingData, sendingStatus, sendingDeviceID, sendingAccessoryID, noService, polled, noAddress, mostID, mostData, has, talks, sending}
+use Rattle.device.specs.PowerOn.{powerOn}
+use Rattle.device.specs.declared.Device.{Device}
+use Rattle.record.specs.Record.{deviceOf, zeros}
+
+-- the first only with the second
+abbrev pub only : Bool → Bool → Bool
+only a b = not a || b
+
+-- those ranges: addresses 0-31, configured and listener 0/1, talker 0-5, service 0-2, NRD seen 0/1, lengths 0-8 and 0-32
+abbrev pub inRange : Device → Bool
+inRange d =
+    leb (d .fixed) noAddress &&
+    (leb (d .address) noAddress &&
+    (leb (d .configured) 1 &&
+    (leb (d .listener) 1 &&
+    (leb (d .talker) sendingAccessoryID &&
+    (leb (d .service) polled &&
+    (leb (d .noted) 1 &&
+    (leb (d .idlength) mostID &&
+    leb (d .loadlength) mostData)))))))
+
+-- ID and data are zero past their length
+abbrev pub zeroPast : Device → Bool
+zeroPast d = zeros (drop (d .idlength) (d .id)) && zeros (drop (d .loadlength) (d .load))
+
+-- 128 only with 4
+abbrev pub serviceWithStatus : Device → Bool
+serviceWithStatus d = only (has d serviceRequest) (has d status)
+
+-- 64 only with 1 and at least one of 2, 4, 8, 16
+abbrev pub unaddressWithBoth : Device → Bool
+unaddressWithBoth d = only (has d unaddress) (has d listen && talks d)
+
+-- unconfigured has address now equal to fixed
+abbrev pub unconfiguredFixed : Device → Bool
+unconfiguredFixed d = only (eqb (d .configured) 0) (eqb (d .address) (d .fixed))
+
+-- configured only with 32 and an address 0-30
+abbrev pub configuredAble : Device → Bool
+configuredAble d = only (eqb (d .configured) 1) (has d autoAddress && ltb (d .address) noAddress)
+
+-- listener, service and sending states only with their ability
+abbrev pub listenerAble : Device → Bool
+listenerAble d = only (eqb (d .listener) 1) (has d listen)
+
+abbrev pub serviceAble : Device → Bool
+serviceAble d = only (ltb noService (d .service)) (has d serviceRequest)
+
+abbrev pub sendingAble : Device → Bool
+sendingAble d =
+    only (eqb (d .talker) sendingData) (has d sendData) &&
+    (only (eqb (d .talker) sendingStatus) (has d status) &&
+    (only (eqb (d .talker) sendingDeviceID) (has d deviceID) &&
+    only (eqb (d .talker) sendingAccessoryID) (has d accessoryID)))
+
+-- talker 1 with some of 2, 4, 8, 16
+abbrev pub addressedAble : Device → Bool
+addressedAble d = only (eqb (d .talker) addressed) (talks d)
+
+-- data length above 0 only with 2
+abbrev pub dataAble : Device → Bool
+dataAble d = only (ltb 0 (d .loadlength)) (has d sendData)
+
+-- sent at most length, at least 1 in talker 2
+abbrev pub sentWithin : Device → Bool
+sentWithin d = leb (d .sent) (d .loadlength) && only (eqb (d .talker) sendingData) (leb 1 (d .sent))
+
+-- byte 16 is 1 in states 3 and 5, 1 to ID length in 4, else 0
+abbrev pub repliedRight : Device → Bool
+repliedRight d =
+    only (eqb (d .talker) sendingStatus) (eqb (d .replied) 1) &&
+    (only (eqb (d .talker) sendingAccessoryID) (eqb (d .replied) 1) &&
+    (only (eqb (d .talker) sendingDeviceID) (leb 1 (d .replied) && leb (d .replied) (d .idlength)) &&
+    only (leb (d .talker) sendingData) (eqb (d .replied) 0)))
+
+-- bytes 8, 14, 15 zero outside states 2-5
+abbrev pub quietOutside : Device → Bool
+quietOutside d = only (not (sending d)) (eqb (d .noted) 0 && eqb (d .last) 0)
+
+-- the last frame below 1,024
+abbrev pub lastBelow : Device → Bool
+lastBelow d = ltb (d .last) 0x400
+
+-- a device is sound: all of these
+unfoldable pub soundDevice : Device → Bool
+soundDevice d =
+    inRange d &&
+    (zeroPast d &&
+    (serviceWithStatus d &&
+    (unaddressWithBoth d &&
+    (unconfiguredFixed d &&
+    (configuredAble d &&
+    (listenerAble d &&
+    (serviceAble d &&
+    (sendingAble d &&
+    (addressedAble d &&
+    (dataAble d &&
+    (sentWithin d &&
+    (repliedRight d &&
+    (quietOutside d &&
+    lastBelow d)))))))))))))
+
+-- a record is sound: bytes 7 and 17-23 are zero, and its device is sound
+unfoldable pub soundRecord : List ℕ → Bool
+soundRecord b = eqb (getD b 7 0) 0 && (zeros (take 7 (drop 17 b)) && soundDevice (deviceOf b))
+
+-- a set-up item is allowed: its device at power-on is sound
+unfoldable pub allowed : List ℕ → Bool
+allowed item = soundDevice (powerOn item)

@@ -1,0 +1,184 @@
+/* Measures libpil against the model, the same work in one run: alternating runs, the median of each side, and the
+   ratio libpil to model. Use: bench [lister model-lister text], where both listers are commands that read the text. */
+#define _POSIX_C_SOURCE 200809L
+#include "both.h"
+
+#include <stdio.h>
+#include <stdlib.h>
+#include <string.h>
+#include <time.h>
+
+enum {
+    PIL, MODEL,
+    N = PIL_MOST_DEVICES,
+    AREAS = 64,       /* areas that a run works through */
+    RUNS = 41,        /* runs of each side; odd, so that one is the median */
+    LISTER_RUNS = 11
+};
+
+static uint8_t areas[AREAS][PIL_AREA_LENGTH(N)], ready[PIL_AREA_LENGTH(N)];
+static const size_t area_len = PIL_AREA_LENGTH(N);
+
+static double now(void)
+{
+    struct timespec t;
+
+    clock_gettime(CLOCK_MONOTONIC, &t);
+    return (double)t.tv_sec * 1e9 + (double)t.tv_nsec;
+}
+
+/* A loop of 15 devices with all abilities; the given number of NULs in each link but the tail. */
+static void make_ready(unsigned frames)
+{
+    uint8_t items[PIL_ITEMS_LENGTH(N)] = {0};
+
+    for (unsigned i = 0; i < N; i++) {
+        items[PIL_ITEMS_LENGTH(i) + PIL_ITEM_ABILITIES] = 0xff;
+        items[PIL_ITEMS_LENGTH(i) + PIL_ITEM_FIXED] = PIL_NO_ADDRESS;
+    }
+    model_set_up(ready, area_len, items, sizeof items);
+    for (unsigned i = 0; i < N; i++) {
+        uint8_t *link = ready + PIL_LINK_AT(N, i);
+
+        link[PIL_LINK_COUNT] = (uint8_t)frames;
+        for (unsigned k = 0; k < frames; k++)
+            link[PIL_LINK_FRAMES + 2 * k + 1] = 0x04;
+    }
+}
+
+/* The work: each does one area and gives a number that depends on the answers. */
+
+static unsigned long hops(const struct calls *of, uint8_t *area)
+{
+    unsigned long sum = 0;
+
+    for (unsigned device = N; device-- > 0;)
+        sum += of->hop(area, area_len, device).frame;
+    return sum;
+}
+
+static unsigned long drain(const struct calls *of, uint8_t *area)
+{
+    return of->drain(area, area_len, UINT64_MAX).hops;
+}
+
+static unsigned long round_trip(const struct calls *of, uint8_t *area)
+{
+    of->put(area, area_len, 0x041);
+    of->drain(area, area_len, UINT64_MAX);
+    return of->take(area, area_len).frame;
+}
+
+static unsigned long soundness(const struct calls *of, uint8_t *area)
+{
+    return of->hop(area, area_len, N).refusal;
+}
+
+static const struct work {
+    const char *name;
+    unsigned frames; /* in each link but the tail, before */
+    unsigned units;  /* what the work on one area counts as */
+    unsigned long (*on)(const struct calls *, uint8_t *);
+} works[] = {
+    {"hop of one of 15 devices, a frame in each link", 1, N, hops},
+    {"drain of a full loop: 60 hops of 15 devices", PIL_LINK_DEPTH, 1, drain},
+    {"round trip: put, drain of 15 hops, take", 0, 1, round_trip},
+    {"soundness of 15 devices: a hop refused with 3", PIL_LINK_DEPTH, 1, soundness},
+};
+
+/* One run of one side: nanoseconds a unit. The areas are made anew first, outside the time taken. */
+static double run(const struct work *w, int side, unsigned long *sum)
+{
+    double start;
+
+    for (unsigned i = 0; i < AREAS; i++)
+        memcpy(areas[i], ready, area_len);
+    *sum = 0;
+    start = now();
+    for (unsigned i = 0; i < AREAS; i++)
+        *sum += w->on(&both[side], areas[i]);
+    return (now() - start) / (AREAS * w->units);
+}
+
+static int smaller(const void *a, const void *b)
+{
+    double x = *(const double *)a, y = *(const double *)b;
+
+    return (x > y) - (x < y);
+}
+
+static double median(double *times, unsigned count)
+{
+    qsort(times, count, sizeof *times, smaller);
+    return times[count / 2];
+}
+
+static void print_ratio(const char *name, double pil, double model, const char *unit)
+{
+    printf("%-48s %10.1f %10.1f %s  ratio %.2f\n", name, pil, model, unit, pil / model);
+}
+
+static int measure(const struct work *w)
+{
+    static double times[2][RUNS];
+    unsigned long sums[2];
+
+    make_ready(w->frames);
+    for (unsigned i = 0; i < RUNS; i++)
+        for (unsigned turn = 0; turn < 2; turn++) {
+            int side = (i + turn) % 2 ? MODEL : PIL;
+
+            times[side][i] = run(w, side, &sums[side]);
+        }
+    if (sums[PIL] != sums[MODEL]) {
+        printf("%s: the answers differ\n", w->name);
+        return 0;
+    }
+    print_ratio(w->name, median(times[PIL], RUNS), median(times[MODEL], RUNS), "ns");
+    return 1;
+}
+
+/* The listers are programs of their own, so whole runs are timed, start included; the start alone is the run over no
+   input, printed beside it. */
+static int measure_listers(char **commands, const char *text)
+{
+    static double times[2][LISTER_RUNS];
+    static const char *const labels[2] = {"lister, start alone (no input)", "lister, 60,000 bytes, start included"};
+    char line[2000];
+
+    for (unsigned whole = 0; whole < 2; whole++) {
+        for (unsigned i = 0; i < LISTER_RUNS; i++)
+            for (unsigned side = PIL; side <= MODEL; side++) {
+                double start = now();
+
+                snprintf(line, sizeof line, "%s < %s > /dev/null", commands[side], whole ? text : "/dev/null");
+                if (system(line) != 0) {
+                    printf("lister: cannot run %s\n", line);
+                    return 0;
+                }
+                times[side][i] = (now() - start) / 1000;
+            }
+        print_ratio(labels[whole], median(times[PIL], LISTER_RUNS), median(times[MODEL], LISTER_RUNS), "us");
+    }
+    return 1;
+}
+
+int main(int argc, char **argv)
+{
+    int well = 1;
+
+    printf("libpil against the model (plain C, same checks, -O2), medians of %d alternating runs over %d areas.\n"
+           "Areas are written anew before each run, outside the time; nothing is cleared within it.\n", RUNS, AREAS);
+#ifdef EMULATED
+    printf("EMULATED: x86-64 code under an emulator on another processor; the figures are of emulated code, where\n"
+           "identical code at another place in memory has taken up to 1.6 times as long.\n");
+#endif
+    printf("%-48s %10s %10s\n", "", "libpil", "model");
+    for (unsigned i = 0; i < sizeof works / sizeof *works; i++)
+        well &= measure(&works[i]);
+    if (argc == 4)
+        well &= measure_listers(argv + 1, argv[3]);
+    else
+        printf("lister: not there, not measured\n");
+    return well ? 0 : 1;
+}

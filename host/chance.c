@@ -1,0 +1,285 @@
+/* Random material for histories. Choices lean towards what brings devices into all their states. */
+#include "chance.h"
+#include "model.h"
+
+#include <string.h>
+
+static uint64_t state;
+
+void chance_seed(uint64_t seed)
+{
+    state = seed;
+}
+
+/* SplitMix64: every seed serves, and equal seeds give equal histories on every machine. */
+uint64_t chance(void)
+{
+    uint64_t z = state += 0x9e3779b97f4a7c15;
+
+    z = (z ^ z >> 30) * 0xbf58476d1ce4e5b9;
+    z = (z ^ z >> 27) * 0x94d049bb133111eb;
+    return z ^ z >> 31;
+}
+
+unsigned below(unsigned n)
+{
+    return (unsigned)((chance() >> 32) * n >> 32);
+}
+
+int one_in(unsigned n)
+{
+    return below(n) == 0;
+}
+
+void chance_bytes(uint8_t *bytes, size_t length)
+{
+    for (size_t i = 0; i < length; i++)
+        bytes[i] = (uint8_t)chance();
+}
+
+uint64_t wild_number(uint64_t good)
+{
+    static const uint64_t limits[] = {0, 1, 15, 16, 31, 32, 42, 43, 255, 256, 2047, 2048, 65535, 65536,
+                                      UINT32_MAX, (uint64_t)UINT32_MAX + 1, INT64_MAX, UINT64_MAX};
+    uint64_t any = chance();
+    uint64_t high = 1 + below(255);
+
+    switch (below(5)) {
+    case 0: return good + (high << 8 * (1 + below(7)));
+    case 1: return good + 1;
+    case 2: return good - 1;
+    case 3: return any >> below(64);
+    default: return limits[below(sizeof limits / sizeof *limits)];
+    }
+}
+
+unsigned chance_devices(void)
+{
+    if (one_in(12))
+        return PIL_MOST_DEVICES - below(3);
+    return 1 + below(one_in(4) ? 8 : 4);
+}
+
+/* Items. */
+
+static const unsigned replies = PIL_ABILITY_DATA | PIL_ABILITY_STATUS | PIL_ABILITY_ID | PIL_ABILITY_ACCESSORY;
+
+static unsigned chance_abilities(void)
+{
+    unsigned abilities = one_in(2) ? 0xff : below(256);
+
+    if (one_in(3))
+        abilities &= ~(unsigned)PIL_ABILITY_UNADDRESS;
+    if (!(abilities & PIL_ABILITY_STATUS))
+        abilities &= ~(unsigned)PIL_ABILITY_SERVICE;
+    if (!(abilities & PIL_ABILITY_LISTEN) || !(abilities & replies))
+        abilities &= ~(unsigned)PIL_ABILITY_UNADDRESS;
+    return abilities;
+}
+
+/* Small addresses mostly, so that devices, LAD and TAD meet; the last ones for the end of the range. */
+static unsigned chance_address(void)
+{
+    switch (below(5)) {
+    case 0: return below(31);
+    case 1: return 28 + below(3);
+    default: return below(5);
+    }
+}
+
+static void chance_item(uint8_t *item)
+{
+    memset(item, 0, PIL_ITEM_LENGTH);
+    item[PIL_ITEM_ABILITIES] = (uint8_t)chance_abilities();
+    item[PIL_ITEM_FIXED] = (uint8_t)(one_in(2) ? PIL_NO_ADDRESS : chance_address());
+    item[PIL_ITEM_ACCESSORY] = (uint8_t)chance();
+    item[PIL_ITEM_ID_LENGTH] = (uint8_t)below(PIL_MOST_ID + 1);
+    chance_bytes(item + PIL_ITEM_ID, item[PIL_ITEM_ID_LENGTH]);
+}
+
+void chance_items(uint8_t *items, unsigned n)
+{
+    for (unsigned i = 0; i < n; i++)
+        chance_item(items + PIL_ITEMS_LENGTH(i));
+}
+
+void spoil_item(uint8_t *item)
+{
+    static const uint8_t not_allowed[] = {
+        PIL_ABILITY_SERVICE, 0xff - PIL_ABILITY_STATUS, PIL_ABILITY_UNADDRESS, 0x7f - PIL_ABILITY_LISTEN,
+        PIL_ABILITY_UNADDRESS | PIL_ABILITY_LISTEN, PIL_ABILITY_UNADDRESS | PIL_ABILITY_DATA,
+        PIL_ABILITY_UNADDRESS | PIL_ABILITY_AUTO_ADDRESS | PIL_ABILITY_LISTEN};
+    unsigned length = below(PIL_MOST_ID);
+    unsigned past = length + below(PIL_MOST_ID - length);
+
+    switch (below(4)) {
+    case 0: item[PIL_ITEM_ABILITIES] = not_allowed[below(sizeof not_allowed)]; break;
+    case 1: item[PIL_ITEM_FIXED] = (uint8_t)(one_in(2) ? 32 : 32 + below(224)); break;
+    case 2: item[PIL_ITEM_ID_LENGTH] = (uint8_t)(one_in(2) ? 9 : 9 + below(247)); break;
+    default:
+        item[PIL_ITEM_ID_LENGTH] = (uint8_t)length;
+        item[PIL_ITEM_ID + past] = (uint8_t)(1 + below(255));
+    }
+}
+
+/* Frames. */
+
+static unsigned code(unsigned kind)
+{
+    return model_encode(kind, 0).frame;
+}
+
+static const uint8_t *chance_record(const uint8_t *area)
+{
+    return area + PIL_RECORD_AT(below(area[PIL_HEADER_DEVICES]));
+}
+
+/* The address that some device has now. */
+static unsigned address_in_use(const uint8_t *area)
+{
+    unsigned address = chance_record(area)[PIL_RECORD_ADDRESS];
+
+    return address < PIL_NO_ADDRESS ? address : chance_address();
+}
+
+/* A byte on its way back to a device that sends: as sent, with other control bits, or damaged. */
+static unsigned returned_byte(unsigned frame)
+{
+    switch (below(8)) {
+    case 0: return frame ^ 1u << below(8);
+    case 1: return frame ^ PIL_C1;
+    case 2: return frame ^ PIL_C2;
+    default: return frame;
+    }
+}
+
+/* What the talker with this record waits for: the byte it sent last, an NRD, or a frame that asks for a reply. */
+static unsigned awaited_frame(const uint8_t *r)
+{
+    if (r[PIL_RECORD_TALKER] == PIL_TALKER_ADDRESSED)
+        return code(PIL_KIND_SDA) + below(4);
+    if (one_in(12))
+        return code(PIL_KIND_NRD);
+    return returned_byte(r[PIL_RECORD_LAST] | (unsigned)r[PIL_RECORD_LAST + 1] << 8);
+}
+
+static unsigned single_command(void)
+{
+    static const uint8_t kinds[] = {PIL_KIND_UNL, PIL_KIND_UNT, PIL_KIND_IFC, PIL_KIND_AAU, PIL_KIND_AAU,
+                                    PIL_KIND_NUL, PIL_KIND_RFC, PIL_KIND_ETO, PIL_KIND_ETE, PIL_KIND_TCT,
+                                    PIL_KIND_IAA};
+
+    return code(kinds[below(sizeof kinds)]);
+}
+
+unsigned chance_frame(const uint8_t *area, unsigned taken)
+{
+    const uint8_t *r = chance_record(area);
+    unsigned choice = below(100);
+
+    if (r[PIL_RECORD_TALKER] != PIL_TALKER_IDLE && one_in(2))
+        return awaited_frame(r);
+    if (choice < 30 && taken < code(PIL_KIND_NUL))
+        return returned_byte(taken);
+    if (choice < 50)
+        return code(PIL_KIND_TAD) + (one_in(5) ? below(31) : address_in_use(area));
+    if (choice < 62)
+        return code(PIL_KIND_LAD) + (one_in(5) ? below(31) : address_in_use(area));
+    if (choice < 73)
+        return code(PIL_KIND_SDA) + below(4);
+    if (choice < 80)
+        return code(PIL_KIND_AAD) + chance_address();
+    if (choice < 83)
+        return code(PIL_KIND_NRD);
+    if (choice < 88)
+        return code(PIL_KIND_IDY) + below(0x200);
+    if (choice < 93)
+        return below(0x400);
+    if (choice < 98)
+        return single_command();
+    return below(PIL_FRAMES);
+}
+
+/* Sound areas made up. */
+
+/* A talker state that the record's abilities and lengths allow. */
+static unsigned chance_talker(const uint8_t *r)
+{
+    unsigned abilities = r[PIL_RECORD_ABILITIES];
+
+    switch (below(7)) {
+    case 0: return abilities & replies ? PIL_TALKER_ADDRESSED : PIL_TALKER_IDLE;
+    case 1:
+    case 2: return r[PIL_RECORD_DATA_LENGTH] ? PIL_TALKER_DATA : PIL_TALKER_IDLE;
+    case 3: return abilities & PIL_ABILITY_STATUS ? PIL_TALKER_STATUS : PIL_TALKER_IDLE;
+    case 4: return abilities & PIL_ABILITY_ID && r[PIL_RECORD_ID_LENGTH] ? PIL_TALKER_ID : PIL_TALKER_IDLE;
+    case 5: return abilities & PIL_ABILITY_ACCESSORY ? PIL_TALKER_ACCESSORY : PIL_TALKER_IDLE;
+    default: return PIL_TALKER_IDLE;
+    }
+}
+
+static void chance_reply(uint8_t *r)
+{
+    unsigned talker = chance_talker(r);
+    unsigned last = below(0x400);
+
+    r[PIL_RECORD_TALKER] = (uint8_t)talker;
+    if (talker < PIL_TALKER_DATA)
+        return;
+    r[PIL_RECORD_NRD] = (uint8_t)one_in(4);
+    r[PIL_RECORD_LAST] = (uint8_t)last;
+    r[PIL_RECORD_LAST + 1] = (uint8_t)(last >> 8);
+    if (talker == PIL_TALKER_DATA)
+        r[PIL_RECORD_SENT] = (uint8_t)(1 + below(r[PIL_RECORD_DATA_LENGTH]));
+    else if (talker == PIL_TALKER_ID)
+        r[PIL_RECORD_REPLY_SENT] = (uint8_t)(1 + below(r[PIL_RECORD_ID_LENGTH]));
+    else
+        r[PIL_RECORD_REPLY_SENT] = 1;
+}
+
+static void chance_sound_record(uint8_t *r)
+{
+    uint8_t item[PIL_ITEM_LENGTH];
+    unsigned abilities;
+
+    chance_item(item);
+    memset(r, 0, PIL_RECORD_LENGTH);
+    r[PIL_RECORD_ABILITIES] = item[PIL_ITEM_ABILITIES];
+    r[PIL_RECORD_FIXED] = r[PIL_RECORD_ADDRESS] = item[PIL_ITEM_FIXED];
+    r[PIL_RECORD_ACCESSORY] = item[PIL_ITEM_ACCESSORY];
+    r[PIL_RECORD_ID_LENGTH] = item[PIL_ITEM_ID_LENGTH];
+    memcpy(r + PIL_RECORD_ID, item + PIL_ITEM_ID, PIL_MOST_ID);
+    abilities = r[PIL_RECORD_ABILITIES];
+    if (abilities & PIL_ABILITY_AUTO_ADDRESS && one_in(2)) {
+        r[PIL_RECORD_CONFIGURED] = 1;
+        r[PIL_RECORD_ADDRESS] = (uint8_t)chance_address();
+    }
+    r[PIL_RECORD_LISTENER] = abilities & PIL_ABILITY_LISTEN && one_in(2);
+    r[PIL_RECORD_SERVICE] = (uint8_t)(abilities & PIL_ABILITY_SERVICE ? below(3) : 0);
+    r[PIL_RECORD_STATUS] = (uint8_t)chance();
+    if (abilities & PIL_ABILITY_DATA) {
+        r[PIL_RECORD_DATA_LENGTH] = (uint8_t)below(one_in(2) ? 4 : PIL_MOST_DATA + 1);
+        r[PIL_RECORD_SENT] = (uint8_t)below(r[PIL_RECORD_DATA_LENGTH] + 1u);
+        chance_bytes(r + PIL_RECORD_DATA, r[PIL_RECORD_DATA_LENGTH]);
+    }
+    chance_reply(r);
+}
+
+void chance_sound_area(uint8_t *area, unsigned n)
+{
+    memset(area, 0, PIL_AREA_LENGTH(n));
+    area[PIL_HEADER_DEVICES] = (uint8_t)n;
+    for (unsigned i = 0; i < n; i++)
+        chance_sound_record(area + PIL_RECORD_AT(i));
+    for (unsigned i = 0; i <= n; i++) {
+        uint8_t *link = area + PIL_LINK_AT(n, i);
+
+        link[PIL_LINK_COUNT] = (uint8_t)below(PIL_LINK_DEPTH + 1);
+        for (unsigned k = 0; k < link[PIL_LINK_COUNT]; k++) {
+            unsigned frame = chance_frame(area, below(0x400));
+
+            link[PIL_LINK_FRAMES + 2 * k] = (uint8_t)frame;
+            link[PIL_LINK_FRAMES + 2 * k + 1] = (uint8_t)(frame >> 8);
+        }
+    }
+}

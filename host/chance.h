@@ -1,0 +1,29 @@
+/* What random histories are made of: numbers from a seed, set-up items, frames that a controller would send, and
+   sound areas made up byte by byte. */
+#ifndef CHANCE_H
+#define CHANCE_H
+
+#include "pil.h"
+
+void chance_seed(uint64_t seed);
+uint64_t chance(void);
+/* A number below n, for n of 1 or more. */
+unsigned below(unsigned n);
+/* True once in n times. */
+int one_in(unsigned n);
+void chance_bytes(uint8_t *bytes, size_t length);
+
+/* A number that is likely to be out of range, to wrap or to look like good when its high bytes are cut off. */
+uint64_t wild_number(uint64_t good);
+/* A number of devices: mostly few, sometimes the most. */
+unsigned chance_devices(void);
+/* Items for n devices, all allowed. */
+void chance_items(uint8_t *items, unsigned n);
+/* Makes an allowed item one that is not. */
+void spoil_item(uint8_t *item);
+/* Fills the area of n devices with sound records and links in any states. */
+void chance_sound_area(uint8_t *area, unsigned n);
+/* A frame for link 0: often the frame taken last, come round, and otherwise what suits the devices' states. */
+unsigned chance_frame(const uint8_t *area, unsigned taken);
+
+#endif

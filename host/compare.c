@@ -1,0 +1,630 @@
+/* Compares libpil with the model, call by call: answers, every byte of the area, bytes beyond it and bytes lent in.
+   Use: compare [seed [calls]]. Exit 0: all equal; 1: a difference; 2: a full run reached too little; 3: wrong use. */
+#include "both.h"
+#include "chance.h"
+#include "order.h"
+
+#include <inttypes.h>
+#include <signal.h>
+#include <stdio.h>
+#include <stdlib.h>
+#include <string.h>
+
+#if __has_include("pil_kinds.h")
+#include "pil_kinds.h"
+#define HAVE_KINDS 1
+#else
+#define HAVE_KINDS 0
+#endif
+
+enum {
+    PIL, MODEL,
+    GUARD = 32,                                             /* bytes on each side that no call may touch */
+    ROOM = GUARD + PIL_AREA_LENGTH(PIL_MOST_DEVICES + 1) + GUARD, /* longer than the longest area */
+    INPUT_ROOM = PIL_ITEMS_LENGTH(PIL_MOST_DEVICES + 2),    /* items, or bytes to load */
+    MOST_LOAD = 40,                                         /* longest load tried */
+    DEFAULT_SEED = 20240,
+    DEFAULT_CALLS = 1100000,
+    FULL_RUN = 1000000, /* calls from which on the counts below are demanded */
+    LEAST_REFUSALS = 100, /* how often each refusal must be given */
+    REFUSALS = PIL_BUSY + 1,
+    TALKERS = PIL_TALKER_ACCESSORY + 1,
+    REASONS = PIL_STOP_HANDED + 1
+};
+
+enum which { SET_UP, PUT, HOP, TAKE, LOAD, STATUS, WISH, DRAIN, DECODE, ENCODE, WHICH };
+
+static const char *const names[WHICH] = {"set_up", "put", "hop", "take", "load", "status", "wish", "drain",
+                                         "decode", "encode"};
+
+/* A call with its arguments; the bytes of set_up and load stand in input. */
+struct call {
+    enum which which;
+    size_t area_len;
+    uint64_t number; /* frame, device, budget or kind */
+    uint64_t second; /* status, wish or offset */
+    size_t input_len;
+};
+
+/* Every field that any call answers. */
+struct answer {
+    uint64_t refusal, frame, handed, byte, end, hops, reason, device, kind;
+};
+
+static uint8_t rooms[2][ROOM], before[ROOM];
+static uint8_t input[INPUT_ROOM], input_before[INPUT_ROOM];
+static uint64_t seed = DEFAULT_SEED, wanted = DEFAULT_CALLS, made;
+static const struct call *under_way;
+static uint64_t refusals[REFUSALS], talkers[TALKERS], reasons[REASONS], calls_of[WHICH];
+
+/* The history under way: its number of devices, the frame taken last, whether many frames are under way. */
+static unsigned n, taken;
+static int crowded;
+
+static uint8_t *area_of(int side)
+{
+    return rooms[side] + GUARD;
+}
+
+static void set_both(size_t place, unsigned value)
+{
+    area_of(PIL)[place] = area_of(MODEL)[place] = (uint8_t)value;
+}
+
+/* One call, on one side. */
+
+static struct answer hopped_answer(struct pil_hopped h)
+{
+    return (struct answer){.refusal = h.refusal, .frame = h.frame, .handed = h.handed, .byte = h.byte, .end = h.end};
+}
+
+static struct answer drained_answer(struct pil_drained d)
+{
+    return (struct answer){.refusal = d.refusal, .hops = d.hops, .reason = d.reason, .device = d.device,
+                           .byte = d.byte, .end = d.end};
+}
+
+static struct answer taken_answer(struct pil_taken t)
+{
+    return (struct answer){.refusal = t.refusal, .frame = t.frame};
+}
+
+static struct answer decoded_answer(struct pil_decoded d)
+{
+    return (struct answer){.refusal = d.refusal, .kind = d.kind};
+}
+
+static struct answer encoded_answer(struct pil_encoded e)
+{
+    return (struct answer){.refusal = e.refusal, .frame = e.frame};
+}
+
+static struct answer refusal_answer(uint8_t refusal)
+{
+    return (struct answer){.refusal = refusal};
+}
+
+static struct answer make(int side, const struct call *c)
+{
+    const struct calls *of = &both[side];
+    uint8_t *area = area_of(side);
+
+    switch (c->which) {
+    case SET_UP: return refusal_answer(of->set_up(area, c->area_len, input, c->input_len));
+    case PUT: return refusal_answer(of->put(area, c->area_len, c->number));
+    case HOP: return hopped_answer(of->hop(area, c->area_len, c->number));
+    case TAKE: return taken_answer(of->take(area, c->area_len));
+    case LOAD: return refusal_answer(of->load(area, c->area_len, c->number, input, c->input_len));
+    case STATUS: return refusal_answer(of->status(area, c->area_len, c->number, (uint8_t)c->second));
+    case WISH: return refusal_answer(of->wish(area, c->area_len, c->number, c->second));
+    case DRAIN: return drained_answer(of->drain(area, c->area_len, c->number));
+    case DECODE: return decoded_answer(of->decode(c->number));
+    default: return encoded_answer(of->encode(c->number, c->second));
+    }
+}
+
+/* What is printed when something differs. */
+
+static void print_answer(int side, const struct answer *a)
+{
+    printf("  %-5s answers refusal %" PRIu64 " frame %03" PRIx64 " handed %" PRIu64 " byte %02" PRIx64
+           " end %" PRIu64 " hops %" PRIu64 " reason %" PRIu64 " device %" PRIu64 " kind %" PRIu64 "\n",
+           both[side].name, a->refusal, a->frame, a->handed, a->byte, a->end, a->hops, a->reason, a->device, a->kind);
+}
+
+static void print_bytes(const char *what, const uint8_t *bytes, size_t length)
+{
+    printf("  %s:", what);
+    for (size_t i = 0; i < length; i++)
+        printf("%s%02x", i % 32 == 0 ? "\n    " : i % 8 == 0 ? " " : "", bytes[i]);
+    printf("\n");
+}
+
+static void print_first_difference(const char *what, const uint8_t *a, const uint8_t *b, long from_start)
+{
+    for (long i = 0; i < ROOM; i++)
+        if (a[i] != b[i]) {
+            printf("  first differing byte, %s: %ld, %02x and %02x\n", what, i - from_start, a[i], b[i]);
+            return;
+        }
+    printf("  no differing byte, %s\n", what);
+}
+
+static _Noreturn void differs(const char *how, const struct call *c, const struct answer answers[2])
+{
+    printf("difference at call %" PRIu64 " of seed %" PRIu64 ": %s\n", made, seed, how);
+    printf("  %s, area length %zu, number %" PRIu64 ", second %" PRIu64 ", input length %zu\n", names[c->which],
+           c->area_len, c->number, c->second, c->input_len);
+    print_answer(PIL, &answers[PIL]);
+    print_answer(MODEL, &answers[MODEL]);
+    print_first_difference("pil's area and the model's", rooms[PIL], rooms[MODEL], GUARD);
+    print_first_difference("pil's area and the area before", rooms[PIL], before, GUARD);
+    print_bytes("area before", before + GUARD, c->area_len < ROOM - 2 * GUARD ? c->area_len : ROOM - 2 * GUARD);
+    print_bytes("input", input_before, c->input_len < INPUT_ROOM ? c->input_len : INPUT_ROOM);
+    printf("  repeat: compare %" PRIu64 " %" PRIu64 "\n", seed, made);
+    exit(1);
+}
+
+/* A call that never returns is a difference too. */
+static _Noreturn void stopped(int signal_number)
+{
+    char how[40];
+    struct answer none[2] = {{0}, {0}};
+
+    snprintf(how, sizeof how, "signal %d", signal_number);
+    if (under_way)
+        differs(how, under_way, none);
+    printf("%s outside the compared calls, seed %" PRIu64 "\n", how, seed);
+    exit(1);
+}
+
+static void catch_signals(void)
+{
+    static const int signals[] = {SIGILL, SIGSEGV, SIGFPE, SIGABRT};
+
+    for (size_t i = 0; i < sizeof signals / sizeof *signals; i++)
+        signal(signals[i], stopped);
+}
+
+/* One call, on both sides. */
+
+static void count_answer(const struct call *c, const struct answer *a)
+{
+    calls_of[c->which]++;
+    refusals[a->refusal]++;
+    if (c->which == DRAIN && a->refusal == PIL_ACCEPTED)
+        reasons[a->reason]++;
+    if (c->which == HOP && a->refusal == PIL_ACCEPTED)
+        talkers[area_of(PIL)[PIL_RECORD_AT(c->number) + PIL_RECORD_TALKER]]++;
+}
+
+/* A refused call alters nothing, an accepted one nothing beyond the area: no model is needed to see this. */
+static int only_lent_bytes_altered(const struct call *c, const struct answer *a)
+{
+    size_t end = GUARD + c->area_len;
+
+    if (a->refusal != PIL_ACCEPTED)
+        return memcmp(rooms[PIL], before, ROOM) == 0;
+    return memcmp(rooms[PIL], before, GUARD) == 0 && memcmp(rooms[PIL] + end, before + end, ROOM - end) == 0;
+}
+
+static struct answer compare_call(const struct call *c)
+{
+    struct answer answers[2];
+
+    made++;
+    memcpy(before, rooms[PIL], ROOM);
+    memcpy(input_before, input, INPUT_ROOM);
+    under_way = c;
+    for (int side = PIL; side <= MODEL; side++)
+        answers[side] = make(side, c);
+    under_way = NULL;
+    if (memcmp(&answers[PIL], &answers[MODEL], sizeof *answers) != 0)
+        differs("the answers", c, answers);
+    if (memcmp(rooms[PIL], rooms[MODEL], ROOM) != 0)
+        differs("the areas", c, answers);
+    if (!only_lent_bytes_altered(c, &answers[PIL]))
+        differs("bytes altered that may not be", c, answers);
+    if (memcmp(input, input_before, INPUT_ROOM) != 0)
+        differs("the items or bytes to load were altered", c, answers);
+    count_answer(c, &answers[PIL]);
+    return answers[PIL];
+}
+
+/* Sensible calls. */
+
+static unsigned frames_in(unsigned link)
+{
+    return area_of(MODEL)[PIL_LINK_AT(n, link) + PIL_LINK_COUNT];
+}
+
+static int can_hop(unsigned device)
+{
+    return frames_in(device) > 0 && frames_in(device + 1) < PIL_LINK_DEPTH;
+}
+
+/* A device, if possible one that can hop. */
+static unsigned some_hopper(void)
+{
+    unsigned start = below(n);
+
+    for (unsigned i = 0; i < n && !one_in(20); i++)
+        if (can_hop((start + i) % n))
+            return (start + i) % n;
+    return start;
+}
+
+/* A device, if possible one that is sending. */
+static unsigned some_sender(void)
+{
+    unsigned start = below(n);
+
+    for (unsigned i = 0; i < n; i++)
+        if (area_of(MODEL)[PIL_RECORD_AT((start + i) % n) + PIL_RECORD_TALKER] >= PIL_TALKER_DATA)
+            return (start + i) % n;
+    return start;
+}
+
+static struct call put_call(void)
+{
+    return (struct call){.which = PUT, .number = chance_frame(area_of(MODEL), taken)};
+}
+
+static struct call hop_call(unsigned device)
+{
+    return (struct call){.which = HOP, .number = device};
+}
+
+static struct call drain_call(void)
+{
+    static const uint64_t budgets[] = {0, 1, 1, 2, 3, 5, 10, 60, 479, 480, UINT32_MAX, UINT64_MAX};
+
+    return (struct call){.which = DRAIN, .number = budgets[below(sizeof budgets / sizeof *budgets)]};
+}
+
+static struct call load_call(unsigned device)
+{
+    size_t length = one_in(2) ? below(5) : one_in(4) ? 31 + below(3) : below(MOST_LOAD + 1);
+
+    chance_bytes(input, length);
+    return (struct call){.which = LOAD, .number = device, .input_len = length};
+}
+
+static struct call local_call(void)
+{
+    unsigned device = one_in(4) ? some_sender() : below(n);
+
+    switch (below(5)) {
+    case 0:
+    case 1: return load_call(device);
+    case 2: return (struct call){.which = STATUS, .number = device, .second = below(256)};
+    case 3: return (struct call){.which = WISH, .number = device, .second = one_in(2) ? 1 : wild_number(0)};
+    default: return (struct call){.which = WISH, .number = device, .second = below(2)};
+    }
+}
+
+static struct call set_up_call(void)
+{
+    chance_items(input, n);
+    return (struct call){.which = SET_UP, .input_len = PIL_ITEMS_LENGTH(n)};
+}
+
+static struct call crowded_call(void)
+{
+    unsigned choice = below(9);
+
+    if (choice < 3)
+        return put_call();
+    return choice < 7 ? hop_call(some_hopper()) : (struct call){.which = TAKE};
+}
+
+/* One frame at a time: takes it out if it has come round, else moves it on, else puts a new one. */
+static struct call paced_call(void)
+{
+    if (frames_in(n) > 0)
+        return (struct call){.which = TAKE};
+    for (unsigned device = n; device-- > 0;)
+        if (can_hop(device))
+            return one_in(3) ? drain_call() : hop_call(device);
+    return put_call();
+}
+
+static struct call sensible_call(void)
+{
+    struct call c;
+
+    if (one_in(8))
+        c = local_call();
+    else if (one_in(12))
+        c = drain_call();
+    else
+        c = crowded ? crowded_call() : paced_call();
+    c.area_len = PIL_AREA_LENGTH(n);
+    return c;
+}
+
+/* Calls that are mostly refused. */
+
+static struct call any_call(void)
+{
+    if (one_in(8)) {
+        struct call c = set_up_call();
+
+        c.area_len = PIL_AREA_LENGTH(n);
+        return c;
+    }
+    return sensible_call();
+}
+
+static void wild_number_call(void)
+{
+    struct call c = sensible_call();
+
+    c.number = wild_number(c.number);
+    if (c.which == WISH)
+        c.second = wild_number(c.second);
+    compare_call(&c);
+}
+
+static size_t wrong_length(size_t right, size_t step, size_t most)
+{
+    size_t other = step * below(PIL_MOST_DEVICES + 2) + (step == PIL_ITEM_LENGTH ? 0 : PIL_AREA_LENGTH(0));
+
+    switch (below(6)) {
+    case 0: other = right + 1; break;
+    case 1: other = right - 1; break;
+    case 2: other = right + step; break;
+    case 3: other = below(2); break;
+    case 4: other = below((unsigned)most); break;
+    default: break;
+    }
+    return other <= most ? other : most;
+}
+
+/* A wrong length of the area, or of the items; byte 0 is sometimes made to fit it. */
+static void wrong_length_call(void)
+{
+    struct call c = any_call();
+    uint8_t first = area_of(MODEL)[0];
+
+    if (c.which == SET_UP && one_in(2)) {
+        c.input_len = wrong_length(c.input_len, PIL_ITEM_LENGTH, INPUT_ROOM);
+    } else {
+        c.area_len = wrong_length(c.area_len, PIL_RECORD_LENGTH + PIL_LINK_LENGTH, ROOM - 2 * GUARD);
+        if (one_in(4))
+            set_both(0, (unsigned)((c.area_len - PIL_AREA_LENGTH(0)) / (PIL_RECORD_LENGTH + PIL_LINK_LENGTH)));
+    }
+    /* A set-up that is accepted after all begins another loop in this room. */
+    if (compare_call(&c).refusal == PIL_ACCEPTED)
+        n = area_of(MODEL)[0];
+    else
+        set_both(0, first);
+}
+
+static void bad_items_call(void)
+{
+    struct call c = set_up_call();
+
+    c.area_len = PIL_AREA_LENGTH(n);
+    spoil_item(input + PIL_ITEMS_LENGTH(below(n)));
+    compare_call(&c);
+}
+
+/* Damaged areas. */
+
+static size_t damaged_place(void)
+{
+    size_t record = PIL_RECORD_AT(one_in(2) ? some_sender() : below(n));
+    size_t link = PIL_LINK_AT(n, below(n + 1));
+
+    switch (below(8)) {
+    case 0: return below(PIL_HEADER_LENGTH);
+    case 1: return link + below(PIL_LINK_LENGTH);
+    case 2: return link + below(PIL_LINK_FRAMES);
+    case 3: return record + below(PIL_RECORD_LENGTH);
+    default: return record + below(PIL_RECORD_ZEROS + 1);
+    }
+}
+
+static uint8_t damaged_value(uint8_t good)
+{
+    static const uint8_t limits[] = {0, 1, 2, 3, 4, 5, 6, 7, 8, 9, 30, 31, 32, 33, 128, 255};
+
+    switch (below(4)) {
+    case 0: return (uint8_t)(good ^ 1u << below(8));
+    case 1: return (uint8_t)(good + (one_in(2) ? 1 : -1));
+    case 2: return limits[below(sizeof limits)];
+    default: return (uint8_t)chance();
+    }
+}
+
+/* Two bytes at once: a last frame or a frame in a link, at the limits of either. */
+static void damage_frame(void)
+{
+    static const uint16_t limits[] = {1, 0xff, 0x3ff, 0x400, 0x7ff, 0x800, 0xffff};
+    size_t last = PIL_RECORD_AT(some_sender()) + PIL_RECORD_LAST;
+    size_t frame = PIL_LINK_AT(n, below(n + 1)) + PIL_LINK_FRAMES + 2 * below(PIL_LINK_DEPTH);
+    size_t place = one_in(2) ? last : frame;
+    unsigned value = limits[below(sizeof limits / sizeof *limits)];
+
+    set_both(place, value);
+    set_both(place + 1, value >> 8);
+}
+
+static void damage(void)
+{
+    if (one_in(6)) {
+        damage_frame();
+        return;
+    }
+    for (unsigned times = 1 + below(3); times > 0; times--) {
+        size_t place = damaged_place();
+
+        set_both(place, damaged_value(area_of(MODEL)[place]));
+    }
+}
+
+/* Damages some bytes and makes one call; an area that is sound after all is sometimes kept. */
+static void damaged_call(void)
+{
+    static uint8_t saved[ROOM];
+    struct call c = any_call();
+    struct answer a;
+
+    memcpy(saved, rooms[MODEL], ROOM);
+    damage();
+    a = compare_call(&c);
+    if (a.refusal == PIL_SHAPE || a.refusal == PIL_UNSOUND || one_in(2)) {
+        memcpy(rooms[PIL], saved, ROOM);
+        memcpy(rooms[MODEL], saved, ROOM);
+    }
+}
+
+/* Histories. */
+
+static _Noreturn void wrong_material(const char *what)
+{
+    printf("call %" PRIu64 " of seed %" PRIu64 ": the model refuses %s\n", made, seed, what);
+    exit(3);
+}
+
+/* Begins with a set-up over any contents, or with a sound area made up. */
+static void begin(void)
+{
+    struct call c;
+    size_t area_len;
+
+    n = chance_devices();
+    area_len = PIL_AREA_LENGTH(n);
+    crowded = one_in(2);
+    taken = 0;
+    memset(rooms[PIL], 0xa5, ROOM);
+    if (one_in(3)) {
+        chance_sound_area(area_of(PIL), n);
+        c = (struct call){.which = PUT, .number = PIL_FRAMES, .area_len = area_len};
+    } else {
+        chance_bytes(area_of(PIL), area_len);
+        c = set_up_call();
+        c.area_len = area_len;
+    }
+    memcpy(rooms[MODEL], rooms[PIL], ROOM);
+    if (compare_call(&c).refusal != (c.which == PUT ? PIL_BAD_FRAME : PIL_ACCEPTED))
+        wrong_material(c.which == PUT ? "a sound area" : "allowed items");
+}
+
+static void go_on(void)
+{
+    struct call c = sensible_call();
+    struct answer a = compare_call(&c);
+
+    if (c.which == TAKE && a.refusal == PIL_ACCEPTED)
+        taken = (unsigned)a.frame;
+}
+
+static void history(void)
+{
+    begin();
+    for (unsigned left = 20 + below(300); left > 0 && made < wanted; left--) {
+        switch (below(20)) {
+        case 0: wild_number_call(); break;
+        case 1: wrong_length_call(); break;
+        case 2:
+        case 3: damaged_call(); break;
+        case 4: bad_items_call(); break;
+        default: go_on();
+        }
+    }
+}
+
+/* Codes. */
+
+static void compare_code(enum which which, uint64_t number, uint64_t second)
+{
+    struct call c = {.which = which, .number = number, .second = second};
+
+    compare_call(&c);
+}
+
+static void compare_codes(void)
+{
+    for (unsigned frame = 0; frame <= 2100; frame++)
+        compare_code(DECODE, frame, 0);
+    for (unsigned kind = 0; kind <= 50; kind++)
+        for (unsigned offset = 0; offset <= 0x210; offset++)
+            compare_code(ENCODE, kind, offset);
+    for (unsigned i = 0; i < 20000; i++) {
+        uint64_t kind = below(PIL_KINDS), offset = below(0x200);
+
+        compare_code(DECODE, wild_number(below(PIL_FRAMES)), 0);
+        compare_code(ENCODE, wild_number(kind), offset);
+        compare_code(ENCODE, kind, wild_number(offset));
+    }
+}
+
+static void compare_table(void)
+{
+#if HAVE_KINDS
+    for (unsigned frame = 0; frame < PIL_FRAMES; frame++)
+        if (pil_kinds[frame] != pil_decode(frame).kind) {
+            printf("difference: pil_kinds[%u] is %u, pil_decode answers %u\n", frame, pil_kinds[frame],
+                   pil_decode(frame).kind);
+            exit(1);
+        }
+    printf("pil_kinds.h: equal to the decoder at all %d frames\n", PIL_FRAMES);
+#else
+    printf("pil_kinds.h: not there, not compared\n");
+#endif
+}
+
+/* The report. */
+
+static int report_counts(const char *what, const uint64_t *counts, unsigned from, unsigned end, uint64_t least)
+{
+    int enough = 1;
+
+    printf("%s:", what);
+    for (unsigned i = from; i < end; i++) {
+        printf(" %u: %" PRIu64, i, counts[i]);
+        enough &= counts[i] >= least;
+    }
+    printf("%s\n", enough ? "" : "  TOO FEW");
+    return enough;
+}
+
+static int report(void)
+{
+    int enough = 1;
+
+    printf("%" PRIu64 " calls, all answers and areas equal\n ", made);
+    for (unsigned i = 0; i < WHICH; i++)
+        printf(" %s %" PRIu64, names[i], calls_of[i]);
+    printf("\n");
+    enough &= report_counts("refusals given", refusals, PIL_SHAPE, REFUSALS, LEAST_REFUSALS);
+    enough &= report_counts("talker states after a hop", talkers, 0, TALKERS, 1);
+    enough &= report_counts("reasons of drains", reasons, 0, REASONS, 1);
+    return enough;
+}
+
+int main(int argc, char **argv)
+{
+    int enough;
+
+    if (argc > 1)
+        seed = strtoull(argv[1], NULL, 0);
+    if (argc > 2)
+        wanted = strtoull(argv[2], NULL, 0);
+    if (argc > 3 || wanted == 0) {
+        fprintf(stderr, "use: compare [seed [calls]]\n");
+        return 3;
+    }
+    printf("seed %" PRIu64 ", %" PRIu64 " calls in histories\n", seed, wanted);
+    catch_signals();
+    chance_seed(seed);
+    while (made < wanted)
+        history();
+    compare_codes();
+    enough = report();
+    compare_table();
+    order_histories(seed, wanted / 500);
+    return enough || wanted < FULL_RUN ? 0 : 2;
+}

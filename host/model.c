@@ -1,0 +1,720 @@
+/* The model: each rule of paper 01 as a small function named after it, straight on the bytes of the area.
+   It is written from the paper alone and shares nothing with the library but the names in pil.h. */
+#include "model.h"
+
+#include <stdio.h>
+#include <string.h>
+
+#ifndef MODEL_FAULT
+#define MODEL_FAULT 0
+#endif
+
+enum {
+    REPLIES = PIL_ABILITY_DATA | PIL_ABILITY_STATUS | PIL_ABILITY_ID | PIL_ABILITY_ACCESSORY,
+    ETO = 0x540,
+    ETE = 0x541
+};
+
+static unsigned get16(const uint8_t *at)
+{
+    return at[0] | (unsigned)at[1] << 8;
+}
+
+static void set16(uint8_t *at, unsigned value)
+{
+    at[0] = (uint8_t)value;
+    at[1] = (uint8_t)(value >> 8);
+}
+
+static int all_zero(const uint8_t *bytes, size_t from, size_t end)
+{
+    for (size_t i = from; i < end; i++)
+        if (bytes[i] != 0)
+            return 0;
+    return 1;
+}
+
+/* Frames and their kinds. */
+
+/* 01, Frames and their kinds: first and last code of each kind; the kinds stand in the order of their codes. */
+static const struct { uint16_t first, last; } messages[PIL_KINDS] = {
+    [PIL_KIND_DAB] = {0x000, 0x1ff}, [PIL_KIND_END] = {0x200, 0x3ff}, [PIL_KIND_NUL] = {0x400, 0x400},
+    [PIL_KIND_GTL] = {0x401, 0x401}, [PIL_KIND_SDC] = {0x404, 0x404}, [PIL_KIND_PPD] = {0x405, 0x405},
+    [PIL_KIND_GET] = {0x408, 0x408}, [PIL_KIND_LLO] = {0x411, 0x411}, [PIL_KIND_DCL] = {0x414, 0x414},
+    [PIL_KIND_PPU] = {0x415, 0x415}, [PIL_KIND_EAR] = {0x418, 0x418}, [PIL_KIND_LAD] = {0x420, 0x43e},
+    [PIL_KIND_UNL] = {0x43f, 0x43f}, [PIL_KIND_TAD] = {0x440, 0x45e}, [PIL_KIND_UNT] = {0x45f, 0x45f},
+    [PIL_KIND_SAD] = {0x460, 0x47e}, [PIL_KIND_PPE] = {0x480, 0x48f}, [PIL_KIND_IFC] = {0x490, 0x490},
+    [PIL_KIND_REN] = {0x492, 0x492}, [PIL_KIND_NRE] = {0x493, 0x493}, [PIL_KIND_AAU] = {0x49a, 0x49a},
+    [PIL_KIND_LPD] = {0x49b, 0x49b}, [PIL_KIND_DDL] = {0x4a0, 0x4bf}, [PIL_KIND_DDT] = {0x4c0, 0x4df},
+    [PIL_KIND_RFC] = {0x500, 0x500}, [PIL_KIND_ETO] = {0x540, 0x540}, [PIL_KIND_ETE] = {0x541, 0x541},
+    [PIL_KIND_NRD] = {0x542, 0x542}, [PIL_KIND_SDA] = {0x560, 0x560}, [PIL_KIND_SST] = {0x561, 0x561},
+    [PIL_KIND_SDI] = {0x562, 0x562}, [PIL_KIND_SAI] = {0x563, 0x563}, [PIL_KIND_TCT] = {0x564, 0x564},
+    [PIL_KIND_AAD] = {0x580, 0x59e}, [PIL_KIND_IAA] = {0x59f, 0x59f}, [PIL_KIND_AEP] = {0x5a0, 0x5be},
+    [PIL_KIND_IEP] = {0x5bf, 0x5bf}, [PIL_KIND_AES] = {0x5c0, 0x5de}, [PIL_KIND_IES] = {0x5df, 0x5df},
+    [PIL_KIND_AMP] = {0x5e0, 0x5fe}, [PIL_KIND_IMP] = {0x5ff, 0x5ff}, [PIL_KIND_IDY] = {0x600, 0x7ff},
+};
+
+/* The first kind whose last code is not below the frame is the only one it can be of. */
+static unsigned kind_of(unsigned frame)
+{
+    unsigned kind = PIL_KIND_DAB;
+
+    while (frame > messages[kind].last)
+        kind++;
+    return frame >= messages[kind].first ? kind : PIL_KIND_NONE;
+}
+
+struct pil_decoded model_decode(uint64_t frame)
+{
+    if (frame >= PIL_FRAMES)
+        return (struct pil_decoded){.refusal = PIL_BAD_FRAME};
+    return (struct pil_decoded){.kind = (uint8_t)kind_of((unsigned)frame)};
+}
+
+struct pil_encoded model_encode(uint64_t kind, uint64_t offset)
+{
+    if (kind == PIL_KIND_NONE || kind >= PIL_KINDS)
+        return (struct pil_encoded){.refusal = PIL_BAD_FRAME};
+    if (offset > (uint64_t)(messages[kind].last - messages[kind].first))
+        return (struct pil_encoded){.refusal = PIL_BAD_FRAME};
+    return (struct pil_encoded){.frame = (uint16_t)(messages[kind].first + offset)};
+}
+
+/* Soundness: 01, The lent area. */
+
+static int abilities_allowed(unsigned abilities)
+{
+    if ((abilities & PIL_ABILITY_SERVICE) && !(abilities & PIL_ABILITY_STATUS))
+        return 0;
+    if ((abilities & PIL_ABILITY_UNADDRESS) && !((abilities & PIL_ABILITY_LISTEN) && (abilities & REPLIES)))
+        return 0;
+    return 1;
+}
+
+static int item_allowed(const uint8_t *item)
+{
+    return abilities_allowed(item[PIL_ITEM_ABILITIES])
+        && item[PIL_ITEM_FIXED] <= PIL_NO_ADDRESS
+        && item[PIL_ITEM_ID_LENGTH] <= PIL_MOST_ID
+        && all_zero(item + PIL_ITEM_ID, item[PIL_ITEM_ID_LENGTH], PIL_MOST_ID);
+}
+
+static int ranges_hold(const uint8_t *r)
+{
+    return r[PIL_RECORD_FIXED] <= PIL_NO_ADDRESS
+        && r[PIL_RECORD_ADDRESS] <= PIL_NO_ADDRESS
+        && r[PIL_RECORD_CONFIGURED] <= 1
+        && r[PIL_RECORD_LISTENER] <= 1
+        && r[PIL_RECORD_TALKER] <= PIL_TALKER_ACCESSORY
+        && r[PIL_RECORD_SERVICE] <= PIL_SERVICE_POLLED
+        && r[PIL_RECORD_ZERO] == 0
+        && r[PIL_RECORD_NRD] <= 1
+        && r[PIL_RECORD_ID_LENGTH] <= PIL_MOST_ID
+        && r[PIL_RECORD_DATA_LENGTH] <= PIL_MOST_DATA
+        && r[PIL_RECORD_SENT] <= r[PIL_RECORD_DATA_LENGTH]
+        && all_zero(r, PIL_RECORD_ZEROS, PIL_RECORD_ID)
+        && all_zero(r + PIL_RECORD_ID, r[PIL_RECORD_ID_LENGTH], PIL_MOST_ID)
+        && all_zero(r + PIL_RECORD_DATA, r[PIL_RECORD_DATA_LENGTH], PIL_MOST_DATA);
+}
+
+static int address_sound(const uint8_t *r)
+{
+    if (r[PIL_RECORD_CONFIGURED])
+        return (r[PIL_RECORD_ABILITIES] & PIL_ABILITY_AUTO_ADDRESS) && r[PIL_RECORD_ADDRESS] != PIL_NO_ADDRESS;
+    return r[PIL_RECORD_ADDRESS] == r[PIL_RECORD_FIXED];
+}
+
+/* The abilities one of which a talker state needs. */
+static unsigned abilities_for(unsigned talker)
+{
+    switch (talker) {
+    case PIL_TALKER_ADDRESSED: return REPLIES;
+    case PIL_TALKER_DATA: return PIL_ABILITY_DATA;
+    case PIL_TALKER_STATUS: return PIL_ABILITY_STATUS;
+    case PIL_TALKER_ID: return PIL_ABILITY_ID;
+    case PIL_TALKER_ACCESSORY: return PIL_ABILITY_ACCESSORY;
+    default: return 0;
+    }
+}
+
+static int states_have_abilities(const uint8_t *r)
+{
+    unsigned abilities = r[PIL_RECORD_ABILITIES];
+
+    if (r[PIL_RECORD_LISTENER] && !(abilities & PIL_ABILITY_LISTEN))
+        return 0;
+    if (r[PIL_RECORD_SERVICE] != PIL_SERVICE_NONE && !(abilities & PIL_ABILITY_SERVICE))
+        return 0;
+    if (r[PIL_RECORD_DATA_LENGTH] > 0 && !(abilities & PIL_ABILITY_DATA))
+        return 0;
+    return r[PIL_RECORD_TALKER] == PIL_TALKER_IDLE || (abilities & abilities_for(r[PIL_RECORD_TALKER]));
+}
+
+static int sending(const uint8_t *r)
+{
+    return r[PIL_RECORD_TALKER] >= PIL_TALKER_DATA;
+}
+
+static int reply_sound(const uint8_t *r)
+{
+    unsigned reply_sent = r[PIL_RECORD_REPLY_SENT];
+
+    if (!sending(r))
+        return r[PIL_RECORD_NRD] == 0 && get16(r + PIL_RECORD_LAST) == 0 && reply_sent == 0;
+    if (get16(r + PIL_RECORD_LAST) >= 2 * PIL_C2)
+        return 0;
+    switch (r[PIL_RECORD_TALKER]) {
+    case PIL_TALKER_DATA: return r[PIL_RECORD_SENT] >= 1 && reply_sent == 0;
+    case PIL_TALKER_ID: return reply_sent >= 1 && reply_sent <= r[PIL_RECORD_ID_LENGTH];
+    default: return reply_sent == 1;
+    }
+}
+
+static int record_sound(const uint8_t *r)
+{
+    return ranges_hold(r) && abilities_allowed(r[PIL_RECORD_ABILITIES]) && address_sound(r)
+        && states_have_abilities(r) && reply_sound(r);
+}
+
+static int link_sound(const uint8_t *link)
+{
+    if (link[PIL_LINK_COUNT] > PIL_LINK_DEPTH || link[PIL_LINK_ZERO] != 0)
+        return 0;
+    for (unsigned i = 0; i < PIL_LINK_DEPTH; i++) {
+        unsigned frame = get16(link + PIL_LINK_FRAMES + 2 * i);
+
+        if (frame >= PIL_FRAMES || (i >= link[PIL_LINK_COUNT] && frame != 0))
+            return 0;
+    }
+    return 1;
+}
+
+static int area_sound(const uint8_t *area)
+{
+    unsigned n = area[PIL_HEADER_DEVICES];
+
+    if (!all_zero(area, PIL_HEADER_ZEROS, PIL_HEADER_LENGTH))
+        return 0;
+    for (unsigned i = 0; i < n; i++)
+        if (!record_sound(area + PIL_RECORD_AT(i)))
+            return 0;
+    for (unsigned i = 0; i <= n; i++)
+        if (!link_sound(area + PIL_LINK_AT(n, i)))
+            return 0;
+    return 1;
+}
+
+/* The number of devices whose area has this length, 0 if there is none. */
+static unsigned devices_of_length(size_t area_len)
+{
+    for (unsigned n = 1; n <= PIL_MOST_DEVICES; n++)
+        if (area_len == PIL_AREA_LENGTH(n))
+            return n;
+    return 0;
+}
+
+/* Refusals 1 and 2, which every call but set-up gives in the same way. */
+static uint8_t shape_and_soundness(const uint8_t *area, size_t area_len)
+{
+    unsigned n = devices_of_length(area_len);
+
+    if (n == 0 || n != area[PIL_HEADER_DEVICES])
+        return PIL_SHAPE;
+    return area_sound(area) ? PIL_ACCEPTED : PIL_UNSOUND;
+}
+
+/* Links. */
+
+static uint8_t *link_of(uint8_t *area, size_t i)
+{
+    return area + PIL_LINK_AT(area[PIL_HEADER_DEVICES], i);
+}
+
+static int link_empty(const uint8_t *link)
+{
+    return link[PIL_LINK_COUNT] == 0;
+}
+
+static int link_full(const uint8_t *link)
+{
+    return link[PIL_LINK_COUNT] == PIL_LINK_DEPTH;
+}
+
+static void link_add(uint8_t *link, unsigned frame)
+{
+    set16(link + PIL_LINK_FRAMES + 2 * link[PIL_LINK_COUNT], frame);
+    link[PIL_LINK_COUNT]++;
+}
+
+static unsigned link_take_oldest(uint8_t *link)
+{
+    unsigned left = --link[PIL_LINK_COUNT];
+    uint8_t *frames = link + PIL_LINK_FRAMES;
+    unsigned place = MODEL_FAULT == 3 ? left : 0;
+    unsigned frame = get16(frames + 2 * place);
+
+    memmove(frames + 2 * place, frames + 2 * (place + 1), 2 * (left - place));
+    set16(frames + 2 * left, 0);
+    return frame;
+}
+
+/* What a device does with a frame: 01, the part of that name. r is the device's record. */
+
+static void clear_reply(uint8_t *r)
+{
+    r[PIL_RECORD_NRD] = 0;
+    set16(r + PIL_RECORD_LAST, 0);
+    r[PIL_RECORD_REPLY_SENT] = 0;
+}
+
+/* Goes to talker state 0 or 1, out of a sending state too. */
+static void stop_sending(uint8_t *r, unsigned talker)
+{
+    r[PIL_RECORD_TALKER] = (uint8_t)talker;
+    clear_reply(r);
+}
+
+/* A DAB, END or IDY as it is sent: C1 set if service is 1, otherwise as it is. */
+static unsigned with_service_bit(const uint8_t *r, unsigned frame)
+{
+    if (r[PIL_RECORD_SERVICE] == PIL_SERVICE_ASKING)
+        return frame | PIL_C1;
+    if (MODEL_FAULT == 2 && r[PIL_RECORD_SERVICE] == PIL_SERVICE_NONE)
+        return frame & ~(unsigned)PIL_C1;
+    return frame;
+}
+
+static void listen_address(uint8_t *r, unsigned address)
+{
+    if (address != r[PIL_RECORD_ADDRESS] || !(r[PIL_RECORD_ABILITIES] & PIL_ABILITY_LISTEN))
+        return;
+    r[PIL_RECORD_LISTENER] = 1;
+    if (r[PIL_RECORD_ABILITIES] & PIL_ABILITY_UNADDRESS)
+        stop_sending(r, PIL_TALKER_IDLE);
+}
+
+static void talk_address(uint8_t *r, unsigned address)
+{
+    if (address != r[PIL_RECORD_ADDRESS] || !(r[PIL_RECORD_ABILITIES] & REPLIES)) {
+        stop_sending(r, PIL_TALKER_IDLE);
+        return;
+    }
+    stop_sending(r, PIL_TALKER_ADDRESSED);
+    if (r[PIL_RECORD_ABILITIES] & PIL_ABILITY_UNADDRESS)
+        r[PIL_RECORD_LISTENER] = 0;
+}
+
+static void interface_clear(uint8_t *r)
+{
+    r[PIL_RECORD_LISTENER] = 0;
+    stop_sending(r, PIL_TALKER_IDLE);
+}
+
+static void auto_address_unconfigure(uint8_t *r)
+{
+    if (r[PIL_RECORD_ABILITIES] & PIL_ABILITY_AUTO_ADDRESS) {
+        r[PIL_RECORD_CONFIGURED] = 0;
+        r[PIL_RECORD_ADDRESS] = r[PIL_RECORD_FIXED];
+    }
+}
+
+/* Gives the frame sent. */
+static unsigned auto_address(uint8_t *r, unsigned frame)
+{
+    if (r[PIL_RECORD_CONFIGURED] && MODEL_FAULT != 1)
+        return frame;
+    if (!(r[PIL_RECORD_ABILITIES] & PIL_ABILITY_AUTO_ADDRESS))
+        return frame;
+    r[PIL_RECORD_ADDRESS] = (uint8_t)(frame - messages[PIL_KIND_AAD].first);
+    r[PIL_RECORD_CONFIGURED] = 1;
+    return frame + 1;
+}
+
+/* Bytes that the reply of a sending state has left. */
+static unsigned left_to_send(const uint8_t *r, unsigned talker)
+{
+    switch (talker) {
+    case PIL_TALKER_DATA: return r[PIL_RECORD_DATA_LENGTH] - r[PIL_RECORD_SENT];
+    case PIL_TALKER_ID: return r[PIL_RECORD_ID_LENGTH] - r[PIL_RECORD_REPLY_SENT];
+    default: return 1 - r[PIL_RECORD_REPLY_SENT];
+    }
+}
+
+/* Only data ends in an END. */
+static unsigned next_data_byte(uint8_t *r)
+{
+    unsigned byte = r[PIL_RECORD_DATA + r[PIL_RECORD_SENT]];
+
+    r[PIL_RECORD_SENT]++;
+    return r[PIL_RECORD_SENT] == r[PIL_RECORD_DATA_LENGTH] ? byte | PIL_C2 : byte;
+}
+
+static unsigned next_other_byte(uint8_t *r)
+{
+    unsigned place = r[PIL_RECORD_REPLY_SENT]++;
+
+    switch (r[PIL_RECORD_TALKER]) {
+    case PIL_TALKER_STATUS: return r[PIL_RECORD_STATUS];
+    case PIL_TALKER_ID: return r[PIL_RECORD_ID + place];
+    default: return r[PIL_RECORD_ACCESSORY];
+    }
+}
+
+/* Sends the next byte of the reply of the state it is in; some must be left. */
+static unsigned send_next(uint8_t *r)
+{
+    unsigned byte = r[PIL_RECORD_TALKER] == PIL_TALKER_DATA ? next_data_byte(r) : next_other_byte(r);
+    unsigned frame = with_service_bit(r, byte);
+
+    set16(r + PIL_RECORD_LAST, frame);
+    return frame;
+}
+
+/* SDA, SST, SDI or SAI, which asks for the reply of the given sending state. */
+static unsigned asked_to_send(uint8_t *r, unsigned talker, unsigned frame)
+{
+    if (r[PIL_RECORD_TALKER] != PIL_TALKER_ADDRESSED || !(r[PIL_RECORD_ABILITIES] & abilities_for(talker)))
+        return frame;
+    if (left_to_send(r, talker) == 0)
+        return ETO;
+    if (talker == PIL_TALKER_STATUS && r[PIL_RECORD_SERVICE] == PIL_SERVICE_ASKING)
+        r[PIL_RECORD_SERVICE] = PIL_SERVICE_POLLED;
+    r[PIL_RECORD_TALKER] = (uint8_t)talker;
+    return send_next(r);
+}
+
+/* A sending device's own byte come back. C1 and C2 do not count. */
+static unsigned own_byte_returned(uint8_t *r, unsigned frame)
+{
+    unsigned end;
+
+    if ((frame & PIL_DATA_BITS) != (get16(r + PIL_RECORD_LAST) & PIL_DATA_BITS))
+        end = ETE;
+    else if (r[PIL_RECORD_NRD] || left_to_send(r, r[PIL_RECORD_TALKER]) == 0)
+        end = ETO;
+    else
+        return send_next(r);
+    stop_sending(r, PIL_TALKER_ADDRESSED);
+    return end;
+}
+
+static struct pil_hopped data_or_end(uint8_t *r, unsigned frame)
+{
+    struct pil_hopped hopped = {0};
+
+    if (sending(r)) {
+        hopped.frame = (uint16_t)own_byte_returned(r, frame);
+        return hopped;
+    }
+    hopped.frame = (uint16_t)with_service_bit(r, frame);
+    if (r[PIL_RECORD_LISTENER]) {
+        hopped.handed = 1;
+        hopped.byte = (uint8_t)(frame & PIL_DATA_BITS);
+        hopped.end = (frame & PIL_C2) != 0;
+    }
+    return hopped;
+}
+
+/* A command, which goes on unchanged. */
+static void obey_command(uint8_t *r, unsigned kind, unsigned frame)
+{
+    switch (kind) {
+    case PIL_KIND_LAD: listen_address(r, frame - messages[PIL_KIND_LAD].first); break;
+    case PIL_KIND_UNL: r[PIL_RECORD_LISTENER] = 0; break;
+    case PIL_KIND_TAD: talk_address(r, frame - messages[PIL_KIND_TAD].first); break;
+    case PIL_KIND_UNT: stop_sending(r, PIL_TALKER_IDLE); break;
+    case PIL_KIND_IFC: interface_clear(r); break;
+    case PIL_KIND_AAU: auto_address_unconfigure(r); break;
+    default: break;
+    }
+}
+
+static void note_not_ready(uint8_t *r)
+{
+    if (sending(r))
+        r[PIL_RECORD_NRD] = 1;
+}
+
+/* Gives the frame sent for a frame other than data or end. */
+static unsigned command_ready_or_identify(uint8_t *r, unsigned kind, unsigned frame)
+{
+    switch (kind) {
+    case PIL_KIND_SDA: return asked_to_send(r, PIL_TALKER_DATA, frame);
+    case PIL_KIND_SST: return asked_to_send(r, PIL_TALKER_STATUS, frame);
+    case PIL_KIND_SDI: return asked_to_send(r, PIL_TALKER_ID, frame);
+    case PIL_KIND_SAI: return asked_to_send(r, PIL_TALKER_ACCESSORY, frame);
+    case PIL_KIND_AAD: return auto_address(r, frame);
+    case PIL_KIND_IDY: return with_service_bit(r, frame);
+    case PIL_KIND_NRD: note_not_ready(r); return frame;
+    default: obey_command(r, kind, frame); return frame;
+    }
+}
+
+static struct pil_hopped device_takes(uint8_t *r, unsigned frame)
+{
+    unsigned kind = kind_of(frame);
+
+    if (kind == PIL_KIND_DAB || kind == PIL_KIND_END)
+        return data_or_end(r, frame);
+    return (struct pil_hopped){.frame = (uint16_t)command_ready_or_identify(r, kind, frame)};
+}
+
+/* The calls: 01, the part of that name. Conditions are asked in the order of the refusals' numbers. */
+
+/* Makes a record of zeros the power-on record of the item. */
+static void power_on(uint8_t *r, const uint8_t *item)
+{
+    r[PIL_RECORD_ABILITIES] = item[PIL_ITEM_ABILITIES];
+    r[PIL_RECORD_FIXED] = item[PIL_ITEM_FIXED];
+    r[PIL_RECORD_ADDRESS] = item[PIL_ITEM_FIXED];
+    r[PIL_RECORD_ACCESSORY] = item[PIL_ITEM_ACCESSORY];
+    r[PIL_RECORD_ID_LENGTH] = item[PIL_ITEM_ID_LENGTH];
+    memcpy(r + PIL_RECORD_ID, item + PIL_ITEM_ID, PIL_MOST_ID);
+}
+
+uint8_t model_set_up(uint8_t *area, size_t area_len, const uint8_t *items, size_t items_len)
+{
+    unsigned n = devices_of_length(area_len);
+
+    if (n == 0 || items_len != PIL_ITEMS_LENGTH(n))
+        return PIL_SHAPE;
+    for (unsigned i = 0; i < n; i++)
+        if (!item_allowed(items + PIL_ITEMS_LENGTH(i)))
+            return PIL_UNSOUND;
+    memset(area, 0, area_len);
+    area[PIL_HEADER_DEVICES] = (uint8_t)n;
+    for (unsigned i = 0; i < n; i++)
+        power_on(area + PIL_RECORD_AT(i), items + PIL_ITEMS_LENGTH(i));
+    return PIL_ACCEPTED;
+}
+
+uint8_t model_put(uint8_t *area, size_t area_len, uint64_t frame)
+{
+    uint8_t refusal = shape_and_soundness(area, area_len);
+
+    if (refusal)
+        return refusal;
+    if (frame >= PIL_FRAMES)
+        return PIL_BAD_FRAME;
+    if (link_full(link_of(area, 0)))
+        return PIL_FULL;
+    link_add(link_of(area, 0), (unsigned)frame);
+    return PIL_ACCEPTED;
+}
+
+/* A hop of a device that can hop. */
+static struct pil_hopped hop(uint8_t *area, unsigned device)
+{
+    unsigned frame = link_take_oldest(link_of(area, device));
+    struct pil_hopped hopped = device_takes(area + PIL_RECORD_AT(device), frame);
+
+    link_add(link_of(area, device + 1), hopped.frame);
+    return hopped;
+}
+
+static uint8_t hop_refusal(uint8_t *area, uint64_t device)
+{
+    if (device >= area[PIL_HEADER_DEVICES])
+        return PIL_NO_DEVICE;
+    if (link_empty(link_of(area, device)))
+        return PIL_EMPTY;
+    return link_full(link_of(area, device + 1)) ? PIL_FULL : PIL_ACCEPTED;
+}
+
+struct pil_hopped model_hop(uint8_t *area, size_t area_len, uint64_t device)
+{
+    uint8_t refusal = shape_and_soundness(area, area_len);
+
+    if (!refusal)
+        refusal = hop_refusal(area, device);
+    if (refusal)
+        return (struct pil_hopped){.refusal = refusal};
+    return hop(area, (unsigned)device);
+}
+
+struct pil_taken model_take(uint8_t *area, size_t area_len)
+{
+    uint8_t refusal = shape_and_soundness(area, area_len);
+    uint8_t *tail;
+
+    if (refusal)
+        return (struct pil_taken){.refusal = refusal};
+    tail = link_of(area, area[PIL_HEADER_DEVICES]);
+    if (link_empty(tail))
+        return (struct pil_taken){.refusal = PIL_EMPTY};
+    return (struct pil_taken){.frame = (uint16_t)link_take_oldest(tail)};
+}
+
+/* Refusals 1, 2, 3 and 7 of a local call that needs an ability. */
+static uint8_t local_refusal(const uint8_t *area, size_t area_len, uint64_t device, unsigned ability)
+{
+    uint8_t refusal = shape_and_soundness(area, area_len);
+
+    if (refusal)
+        return refusal;
+    if (device >= area[PIL_HEADER_DEVICES])
+        return PIL_NO_DEVICE;
+    return area[PIL_RECORD_AT(device) + PIL_RECORD_ABILITIES] & ability ? PIL_ACCEPTED : PIL_NO_ABILITY;
+}
+
+uint8_t model_load(uint8_t *area, size_t area_len, uint64_t device, const uint8_t *bytes, size_t bytes_len)
+{
+    uint8_t refusal = local_refusal(area, area_len, device, PIL_ABILITY_DATA);
+    uint8_t *r;
+
+    if (refusal)
+        return refusal;
+    if (bytes_len > PIL_MOST_DATA)
+        return PIL_TOO_LONG;
+    r = area + PIL_RECORD_AT(device);
+    if (r[PIL_RECORD_TALKER] == PIL_TALKER_DATA)
+        return PIL_BUSY;
+    r[PIL_RECORD_DATA_LENGTH] = (uint8_t)bytes_len;
+    r[PIL_RECORD_SENT] = 0;
+    memset(r + PIL_RECORD_DATA, 0, PIL_MOST_DATA);
+    memcpy(r + PIL_RECORD_DATA, bytes, bytes_len);
+    return PIL_ACCEPTED;
+}
+
+uint8_t model_status(uint8_t *area, size_t area_len, uint64_t device, uint8_t status)
+{
+    uint8_t refusal = local_refusal(area, area_len, device, PIL_ABILITY_STATUS);
+
+    if (!refusal)
+        area[PIL_RECORD_AT(device) + PIL_RECORD_STATUS] = status;
+    return refusal;
+}
+
+uint8_t model_wish(uint8_t *area, size_t area_len, uint64_t device, uint64_t wish)
+{
+    uint8_t refusal = local_refusal(area, area_len, device, PIL_ABILITY_SERVICE);
+    uint8_t *service;
+
+    if (refusal)
+        return refusal;
+    service = area + PIL_RECORD_AT(device) + PIL_RECORD_SERVICE;
+    if (wish == 0)
+        *service = PIL_SERVICE_NONE;
+    else if (*service == PIL_SERVICE_NONE)
+        *service = PIL_SERVICE_ASKING;
+    return PIL_ACCEPTED;
+}
+
+/* The highest-numbered device that can hop, -1 if none can. */
+static int highest_that_can_hop(uint8_t *area)
+{
+    for (int device = area[PIL_HEADER_DEVICES] - 1; device >= 0; device--)
+        if (hop_refusal(area, (uint64_t)device) == PIL_ACCEPTED)
+            return device;
+    return -1;
+}
+
+struct pil_drained model_drain(uint8_t *area, size_t area_len, uint64_t budget)
+{
+    struct pil_drained drained = {.refusal = shape_and_soundness(area, area_len)};
+
+    while (!drained.refusal) {
+        int device = highest_that_can_hop(area);
+        struct pil_hopped hopped;
+
+        if (device < 0 || drained.hops == budget) {
+            drained.reason = device < 0 ? PIL_STOP_NO_HOP : PIL_STOP_BUDGET;
+            break;
+        }
+        hopped = hop(area, (unsigned)device);
+        drained.hops++;
+        if (hopped.handed) {
+            drained.reason = PIL_STOP_HANDED;
+            drained.device = (uint8_t)device;
+            drained.byte = hopped.byte;
+            drained.end = hopped.end;
+            break;
+        }
+    }
+    return drained;
+}
+
+/* The lister: 01, Rows for the table, its last part. */
+
+struct listing {
+    uint8_t area[PIL_AREA_LENGTH(PIL_MOST_DEVICES)];
+    size_t area_len;
+    char *out;
+    size_t length;
+};
+
+/* The value of count lower-case hexadecimal digits, -1 for any other form. */
+static int digits(const char *text, size_t count)
+{
+    int value = 0;
+
+    for (size_t i = 0; i < count; i++) {
+        if (text[i] >= '0' && text[i] <= '9')
+            value = 16 * value + (text[i] - '0');
+        else if (text[i] >= 'a' && text[i] <= 'f')
+            value = 16 * value + (text[i] - 'a' + 10);
+        else
+            return -1;
+    }
+    return value;
+}
+
+/* Line 1: "loop" and, for each device, a space, its abilities and its fixed address. Gives 0 if it is wrong. */
+static int first_line(struct listing *list, const char *line, size_t length)
+{
+    uint8_t items[PIL_ITEMS_LENGTH(PIL_MOST_DEVICES)] = {0};
+    size_t n = length < 4 ? 0 : (length - 4) / 5;
+
+    if (length != 4 + 5 * n || memcmp(line, "loop", 4) != 0 || n > PIL_MOST_DEVICES)
+        return 0;
+    for (size_t i = 0; i < n; i++) {
+        const char *field = line + 4 + 5 * i;
+        int value = digits(field + 1, 4);
+
+        if (field[0] != ' ' || value < 0)
+            return 0;
+        items[PIL_ITEMS_LENGTH(i) + PIL_ITEM_ABILITIES] = (uint8_t)(value >> 8);
+        items[PIL_ITEMS_LENGTH(i) + PIL_ITEM_FIXED] = (uint8_t)value;
+    }
+    list->area_len = PIL_AREA_LENGTH(n);
+    return model_set_up(list->area, list->area_len, items, PIL_ITEMS_LENGTH(n)) == PIL_ACCEPTED;
+}
+
+/* A later line: a frame, sent right round. Gives 0 if it is wrong. */
+static int frame_line(struct listing *list, const char *line, size_t length)
+{
+    int frame = length == 3 ? digits(line, 3) : -1;
+
+    if (frame < 0 || model_put(list->area, list->area_len, (uint64_t)frame) != PIL_ACCEPTED)
+        return 0;
+    for (unsigned i = 0; i < list->area[PIL_HEADER_DEVICES]; i++) {
+        struct pil_hopped hopped = model_hop(list->area, list->area_len, i);
+
+        if (hopped.handed)
+            list->length += (size_t)sprintf(list->out + list->length, "hand %u %02x %u\n", i,
+                                            hopped.byte, hopped.end);
+    }
+    list->length += (size_t)sprintf(list->out + list->length, "%03x %03x\n", (unsigned)frame,
+                                    model_take(list->area, list->area_len).frame);
+    return 1;
+}
+
+size_t model_list(const char *text, size_t length, char *out)
+{
+    struct listing list = {.out = out};
+    const char *line = text, *end = text + length;
+    unsigned number = 1;
+
+    if (length > MODEL_MOST_TEXT)
+        return (size_t)sprintf(out, "long\n");
+    do {
+        const char *newline = line == end ? NULL : memchr(line, '\n', (size_t)(end - line));
+        size_t line_length = (size_t)((newline ? newline : end) - line);
+
+        if (!(number == 1 ? first_line : frame_line)(&list, line, line_length))
+            return list.length + (size_t)sprintf(out + list.length, "bad %u\n", number);
+        line = newline ? newline + 1 : end;
+        number++;
+    } while (line < end);
+    return list.length;
+}

@@ -1,0 +1,27 @@
+/* An independent model of paper 01 in plain C: the calls of pil.h under names of its own, over the same area, and
+   the lister. Compiled with MODEL_FAULT 1, 2 or 3 it holds a deliberate fault, for checks of the comparison. */
+#ifndef MODEL_H
+#define MODEL_H
+
+#include "pil.h"
+
+uint8_t model_set_up(uint8_t *area, size_t area_len, const uint8_t *items, size_t items_len);
+uint8_t model_put(uint8_t *area, size_t area_len, uint64_t frame);
+struct pil_hopped model_hop(uint8_t *area, size_t area_len, uint64_t device);
+struct pil_taken model_take(uint8_t *area, size_t area_len);
+uint8_t model_load(uint8_t *area, size_t area_len, uint64_t device, const uint8_t *bytes, size_t bytes_len);
+uint8_t model_status(uint8_t *area, size_t area_len, uint64_t device, uint8_t status);
+uint8_t model_wish(uint8_t *area, size_t area_len, uint64_t device, uint64_t wish);
+struct pil_drained model_drain(uint8_t *area, size_t area_len, uint64_t budget);
+struct pil_decoded model_decode(uint64_t frame);
+struct pil_encoded model_encode(uint64_t kind, uint64_t offset);
+
+enum {
+    MODEL_MOST_TEXT = 60000,   /* longest text that the lister reads */
+    MODEL_MOST_LISTED = 4000000 /* room for what it prints: 15,000 frames with 15 handed bytes each */
+};
+
+/* Lists the text into out, which has MODEL_MOST_LISTED bytes, and gives the length written. */
+size_t model_list(const char *text, size_t length, char *out);
+
+#endif

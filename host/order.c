@@ -1,0 +1,238 @@
+/* Random histories on fresh loops, each made again with every frame sent right round before the next and each
+   device's accepted local calls at the same places among its own hops. All that a caller sees must be the same. */
+#include "order.h"
+
+#include "chance.h"
+#include "pil.h"
+
+#include <inttypes.h>
+#include <stdio.h>
+#include <stdlib.h>
+#include <string.h>
+
+enum { MOST_FRAMES = 80, MOST_LOCALS = 120 };
+
+enum which { LOAD, STATUS, WISH };
+
+/* A local call, and how many hops its device had made before it. */
+struct local {
+    enum which which;
+    unsigned device, before;
+    uint64_t value;
+    uint8_t bytes[PIL_MOST_DATA];
+    size_t length;
+};
+
+/* A loop with what was put into it and what its caller saw. */
+struct loop {
+    uint8_t area[PIL_AREA_LENGTH(PIL_MOST_DEVICES)];
+    size_t area_len;
+    unsigned n;
+    uint16_t put[MOST_FRAMES], out[MOST_FRAMES];
+    unsigned puts, outs;
+    uint16_t handed[PIL_MOST_DEVICES][MOST_FRAMES]; /* the byte, plus 256 with the end bit */
+    unsigned handeds[PIL_MOST_DEVICES];
+    uint64_t hops;
+    struct local locals[MOST_LOCALS];
+    unsigned accepted;
+};
+
+static struct loop mixed, right_round;
+static uint64_t seed_now, history_now;
+
+static void must(int holds, const char *what)
+{
+    if (holds)
+        return;
+    printf("difference in order history %" PRIu64 " of seed %" PRIu64 " (%u devices): %s\n", history_now, seed_now,
+           mixed.n, what);
+    exit(1);
+}
+
+static unsigned frames_in(const struct loop *l, unsigned link)
+{
+    return l->area[PIL_LINK_AT(l->n, link) + PIL_LINK_COUNT];
+}
+
+/* Hops that the device has made: the frames put less those that have not passed it. */
+static unsigned hops_made(const struct loop *l, unsigned device)
+{
+    unsigned made = l->puts;
+
+    for (unsigned link = 0; link <= device; link++)
+        made -= frames_in(l, link);
+    return made;
+}
+
+static int all_empty(const struct loop *l)
+{
+    return hops_made(l, l->n) == l->puts;
+}
+
+/* The calls, each noting what its caller sees. */
+
+static void note_handed(struct loop *l, unsigned device, unsigned byte, unsigned end)
+{
+    l->handed[device][l->handeds[device]++] = (uint16_t)(byte | end << 8);
+}
+
+static int put(struct loop *l, unsigned frame)
+{
+    if (pil_put(l->area, l->area_len, frame) != PIL_ACCEPTED)
+        return 0;
+    l->put[l->puts++] = (uint16_t)frame;
+    return 1;
+}
+
+static int hop(struct loop *l, unsigned device)
+{
+    struct pil_hopped hopped = pil_hop(l->area, l->area_len, device);
+
+    if (hopped.refusal != PIL_ACCEPTED)
+        return 0;
+    l->hops++;
+    if (hopped.handed)
+        note_handed(l, device, hopped.byte, hopped.end);
+    return 1;
+}
+
+static int take(struct loop *l)
+{
+    struct pil_taken taken = pil_take(l->area, l->area_len);
+
+    if (taken.refusal != PIL_ACCEPTED)
+        return 0;
+    l->out[l->outs++] = taken.frame;
+    return 1;
+}
+
+static void drain(struct loop *l, uint64_t budget)
+{
+    struct pil_drained drained = pil_drain(l->area, l->area_len, budget);
+
+    l->hops += drained.hops;
+    if (drained.reason == PIL_STOP_HANDED)
+        note_handed(l, drained.device, drained.byte, drained.end);
+}
+
+static int local(struct loop *l, const struct local *c)
+{
+    switch (c->which) {
+    case LOAD: return pil_load(l->area, l->area_len, c->device, c->bytes, c->length) == PIL_ACCEPTED;
+    case STATUS: return pil_status(l->area, l->area_len, c->device, (uint8_t)c->value) == PIL_ACCEPTED;
+    default: return pil_wish(l->area, l->area_len, c->device, c->value) == PIL_ACCEPTED;
+    }
+}
+
+/* A random history. */
+
+static void random_local(struct loop *l)
+{
+    struct local *c = &l->locals[l->accepted];
+
+    if (l->accepted == MOST_LOCALS)
+        return;
+    c->which = (enum which)below(3);
+    c->device = below(l->n);
+    c->before = hops_made(l, c->device);
+    c->value = one_in(3) ? 0 : chance();
+    c->length = below(one_in(2) ? 4 : PIL_MOST_DATA + 1);
+    chance_bytes(c->bytes, c->length);
+    if (local(l, c))
+        l->accepted++;
+}
+
+static void random_call(struct loop *l)
+{
+    switch (below(10)) {
+    case 0: random_local(l); break;
+    case 1:
+    case 2: put(l, chance_frame(l->area, l->outs ? l->out[l->outs - 1] : 0)); break;
+    case 3: drain(l, below(12)); break;
+    case 4:
+    case 5: take(l); break;
+    default: hop(l, below(l->n));
+    }
+}
+
+/* Empties all links, with a local call now and then. */
+static void finish(struct loop *l)
+{
+    while (!all_empty(l)) {
+        if (one_in(6))
+            random_local(l);
+        drain(l, one_in(2) ? UINT64_MAX : below(5));
+        while (take(l))
+            ;
+    }
+}
+
+/* The same, right round. */
+
+static void locals_due(struct loop *l, unsigned device, unsigned before)
+{
+    for (unsigned i = 0; i < mixed.accepted; i++)
+        if (mixed.locals[i].device == device && mixed.locals[i].before == before)
+            must(local(l, &mixed.locals[i]), "a local call is refused in the right-round history");
+}
+
+static void send_right_round(struct loop *l)
+{
+    for (unsigned k = 0; k < mixed.puts; k++) {
+        must(put(l, mixed.put[k]), "a put is refused in the right-round history");
+        for (unsigned device = 0; device < l->n; device++) {
+            locals_due(l, device, k);
+            must(hop(l, device), "a hop is refused in the right-round history");
+        }
+        must(take(l), "a take is refused in the right-round history");
+    }
+    for (unsigned device = 0; device < l->n; device++)
+        locals_due(l, device, mixed.puts);
+}
+
+static void begin(struct loop *l, const uint8_t *items, unsigned n)
+{
+    memset(l, 0, sizeof *l);
+    l->n = n;
+    l->area_len = PIL_AREA_LENGTH(n);
+    must(pil_set_up(l->area, l->area_len, items, PIL_ITEMS_LENGTH(n)) == PIL_ACCEPTED, "the set-up is refused");
+}
+
+static void one_history(void)
+{
+    uint8_t items[PIL_ITEMS_LENGTH(PIL_MOST_DEVICES)];
+    unsigned n = chance_devices(), frames = 1 + below(MOST_FRAMES);
+
+    chance_items(items, n);
+    begin(&mixed, items, n);
+    begin(&right_round, items, n);
+    while (mixed.puts < frames)
+        random_call(&mixed);
+    finish(&mixed);
+    send_right_round(&right_round);
+    must(memcmp(mixed.area, right_round.area, sizeof mixed.area) == 0, "the areas");
+    must(mixed.outs == mixed.puts && memcmp(mixed.out, right_round.out, sizeof mixed.out) == 0, "the frames out");
+    must(memcmp(mixed.handeds, right_round.handeds, sizeof mixed.handeds) == 0, "the number of bytes handed");
+    must(memcmp(mixed.handed, right_round.handed, sizeof mixed.handed) == 0, "the bytes handed");
+    must(mixed.hops == (uint64_t)mixed.puts * n, "the hops are not frames times devices");
+    must(right_round.hops == mixed.hops, "the hops");
+}
+
+void order_histories(uint64_t seed, uint64_t histories)
+{
+    uint64_t frames = 0, locals = 0, hops = 0, handed = 0;
+
+    seed_now = seed;
+    for (history_now = 1; history_now <= histories; history_now++) {
+        chance_seed(seed + (history_now << 32));
+        one_history();
+        frames += mixed.puts;
+        locals += mixed.accepted;
+        hops += mixed.hops;
+        for (unsigned device = 0; device < mixed.n; device++)
+            handed += mixed.handeds[device];
+    }
+    printf("order: %" PRIu64 " histories equal to their right-round ones: %" PRIu64 " frames, %" PRIu64
+           " accepted local calls, %" PRIu64 " hops, %" PRIu64 " bytes handed\n",
+           histories, frames, locals, hops, handed);
+}

@@ -1,0 +1,10 @@
+/* The third demand, tried on libpil: the order of hops does not matter. */
+#ifndef ORDER_H
+#define ORDER_H
+
+#include <stdint.h>
+
+/* Runs that many random histories; prints the first that differs from its right-round history and exits 1. */
+void order_histories(uint64_t seed, uint64_t histories);
+
+#endif

@@ -1,0 +1,251 @@
+/* The C interface of the loop model: the calls of libpil.a, the numbers they answer, and the layout of the area
+   that a bench lends to them. Every number of this file is fixed by paper 01. */
+#ifndef PIL_H
+#define PIL_H
+
+#include <stddef.h>
+#include <stdint.h>
+
+#ifdef __cplusplus
+extern "C" {
+#endif
+
+/* Refusals. A refused call answers its refusal and zeros and alters nothing; the smallest that holds is given. */
+enum {
+    PIL_ACCEPTED = 0,   /* no refusal */
+    PIL_SHAPE = 1,      /* the area's length is that of no loop, or not that of its byte 0; items of a wrong length */
+    PIL_UNSOUND = 2,    /* the area's contents break a rule; at set-up an item does */
+    PIL_NO_DEVICE = 3,  /* the device number is the number of devices or more */
+    PIL_BAD_FRAME = 4,  /* a frame over 2,047; a kind or offset outside the message table */
+    PIL_EMPTY = 5,      /* the link to take from holds no frame */
+    PIL_FULL = 6,       /* the link to add to holds four frames */
+    PIL_NO_ABILITY = 7, /* load without data, status without status, wish without service request */
+    PIL_TOO_LONG = 8,   /* a load of more than 32 bytes */
+    PIL_BUSY = 9        /* a load while the device sends data */
+};
+
+/* Why a drain stopped. */
+enum {
+    PIL_STOP_NO_HOP = 0, /* no device can hop */
+    PIL_STOP_BUDGET = 1, /* the budget is spent, and a hop is still possible */
+    PIL_STOP_HANDED = 2  /* the last hop handed a byte; the answer names device, byte and end bit */
+};
+
+/* Kinds of frame: the messages of the loop, by their codes. */
+enum {
+    PIL_KIND_NONE = 0,  /* no message */
+    PIL_KIND_DAB = 1,   /* 000-1ff data byte */
+    PIL_KIND_END = 2,   /* 200-3ff end byte: the last of a record */
+    PIL_KIND_NUL = 3,   /* 400 null command */
+    PIL_KIND_GTL = 4,   /* 401 go to local */
+    PIL_KIND_SDC = 5,   /* 404 selected device clear */
+    PIL_KIND_PPD = 6,   /* 405 parallel poll disable */
+    PIL_KIND_GET = 7,   /* 408 group execute trigger */
+    PIL_KIND_LLO = 8,   /* 411 local lockout */
+    PIL_KIND_DCL = 9,   /* 414 device clear */
+    PIL_KIND_PPU = 10,  /* 415 parallel poll unconfigure */
+    PIL_KIND_EAR = 11,  /* 418 enable asynchronous requests */
+    PIL_KIND_LAD = 12,  /* 420-43e listen address 0-30 */
+    PIL_KIND_UNL = 13,  /* 43f unlisten */
+    PIL_KIND_TAD = 14,  /* 440-45e talk address 0-30 */
+    PIL_KIND_UNT = 15,  /* 45f untalk */
+    PIL_KIND_SAD = 16,  /* 460-47e secondary address 0-30 */
+    PIL_KIND_PPE = 17,  /* 480-48f parallel poll enable 0-15 */
+    PIL_KIND_IFC = 18,  /* 490 interface clear */
+    PIL_KIND_REN = 19,  /* 492 remote enable */
+    PIL_KIND_NRE = 20,  /* 493 not remote enable */
+    PIL_KIND_AAU = 21,  /* 49a auto address unconfigure */
+    PIL_KIND_LPD = 22,  /* 49b loop power down */
+    PIL_KIND_DDL = 23,  /* 4a0-4bf device dependent listener 0-31 */
+    PIL_KIND_DDT = 24,  /* 4c0-4df device dependent talker 0-31 */
+    PIL_KIND_RFC = 25,  /* 500 ready for command */
+    PIL_KIND_ETO = 26,  /* 540 end of transmission, all well */
+    PIL_KIND_ETE = 27,  /* 541 end of transmission, error */
+    PIL_KIND_NRD = 28,  /* 542 not ready for data */
+    PIL_KIND_SDA = 29,  /* 560 send data */
+    PIL_KIND_SST = 30,  /* 561 send status */
+    PIL_KIND_SDI = 31,  /* 562 send device ID */
+    PIL_KIND_SAI = 32,  /* 563 send accessory ID */
+    PIL_KIND_TCT = 33,  /* 564 take control */
+    PIL_KIND_AAD = 34,  /* 580-59e auto address 0-30 */
+    PIL_KIND_IAA = 35,  /* 59f illegal auto address */
+    PIL_KIND_AEP = 36,  /* 5a0-5be auto extended primary 0-30 */
+    PIL_KIND_IEP = 37,  /* 5bf illegal extended primary */
+    PIL_KIND_AES = 38,  /* 5c0-5de auto extended secondary 0-30 */
+    PIL_KIND_IES = 39,  /* 5df illegal extended secondary */
+    PIL_KIND_AMP = 40,  /* 5e0-5fe auto multiple primary 0-30 */
+    PIL_KIND_IMP = 41,  /* 5ff illegal multiple primary */
+    PIL_KIND_IDY = 42,  /* 600-7ff identify */
+    PIL_KINDS = 43      /* how many kinds there are, 0 among them */
+};
+
+/* Parts of a frame. */
+enum {
+    PIL_FRAMES = 2048,     /* how many frames there are: 0 to 2,047 */
+    PIL_DATA_BITS = 0x0ff, /* data bits D8 to D1 */
+    PIL_C1 = 0x100,        /* control bit C1: service asked for, in DAB, END and IDY */
+    PIL_C2 = 0x200         /* control bit C2: the end bit of a data byte */
+};
+
+/* Limits and lengths, in bytes where not said otherwise. */
+enum {
+    PIL_MOST_DEVICES = 15,  /* devices of the longest loop */
+    PIL_LINK_DEPTH = 4,     /* frames that a link holds */
+    PIL_MOST_ID = 8,        /* longest device ID */
+    PIL_MOST_DATA = 32,     /* longest load */
+    PIL_NO_ADDRESS = 31,    /* the address that no LAD or TAD names */
+    PIL_ITEM_LENGTH = 12,   /* a device's set-up item */
+    PIL_HEADER_LENGTH = 8,  /* the area's header */
+    PIL_RECORD_LENGTH = 64, /* a device's record */
+    PIL_LINK_LENGTH = 10    /* a link */
+};
+
+/* The area of n devices: header, n records, n + 1 links; link i feeds device i and the last link is the tail. */
+#define PIL_AREA_LENGTH(n) (PIL_LINK_AT(n, 0) + PIL_LINK_LENGTH * ((size_t)(n) + 1))
+/* Where device i's record begins. */
+#define PIL_RECORD_AT(i) (PIL_HEADER_LENGTH + PIL_RECORD_LENGTH * (size_t)(i))
+/* Where link i of a loop of n devices begins. */
+#define PIL_LINK_AT(n, i) (PIL_RECORD_AT(n) + PIL_LINK_LENGTH * (size_t)(i))
+/* The length of n devices' set-up items. */
+#define PIL_ITEMS_LENGTH(n) (PIL_ITEM_LENGTH * (size_t)(n))
+
+/* Abilities: bits of an item's and a record's first byte. */
+enum {
+    PIL_ABILITY_LISTEN = 1,       /* takes data bytes as a listener */
+    PIL_ABILITY_DATA = 2,         /* sends data when asked by SDA */
+    PIL_ABILITY_STATUS = 4,       /* sends its status when asked by SST */
+    PIL_ABILITY_ID = 8,           /* sends its device ID when asked by SDI */
+    PIL_ABILITY_ACCESSORY = 16,   /* sends its accessory ID when asked by SAI */
+    PIL_ABILITY_AUTO_ADDRESS = 32, /* takes an address from AAD and gives it up at AAU */
+    PIL_ABILITY_UNADDRESS = 64,   /* is never listener and talker at once by LAD and TAD; needs both abilities */
+    PIL_ABILITY_SERVICE = 128     /* may ask for service; needs status */
+};
+
+/* Offsets in a set-up item. */
+enum {
+    PIL_ITEM_ABILITIES = 0, /* abilities */
+    PIL_ITEM_FIXED = 1,     /* fixed address 0-30, 31 for none */
+    PIL_ITEM_ACCESSORY = 2, /* accessory ID */
+    PIL_ITEM_ID_LENGTH = 3, /* length of the device ID, 0-8 */
+    PIL_ITEM_ID = 4         /* eight bytes: the device ID, zero past its length */
+};
+
+/* Offsets in the header. */
+enum {
+    PIL_HEADER_DEVICES = 0, /* number of devices */
+    PIL_HEADER_ZEROS = 1    /* seven zero bytes */
+};
+
+/* Offsets in a record. */
+enum {
+    PIL_RECORD_ABILITIES = 0,  /* abilities */
+    PIL_RECORD_FIXED = 1,      /* fixed address 0-30, 31 for none */
+    PIL_RECORD_ADDRESS = 2,    /* address now, 0-31 */
+    PIL_RECORD_CONFIGURED = 3, /* 1 if the address was given by AAD */
+    PIL_RECORD_LISTENER = 4,   /* 1 if listener */
+    PIL_RECORD_TALKER = 5,     /* talker state */
+    PIL_RECORD_SERVICE = 6,    /* service state */
+    PIL_RECORD_ZERO = 7,       /* zero byte */
+    PIL_RECORD_NRD = 8,        /* 1 if NRD was seen while sending */
+    PIL_RECORD_STATUS = 9,     /* status byte */
+    PIL_RECORD_ACCESSORY = 10, /* accessory ID */
+    PIL_RECORD_ID_LENGTH = 11, /* length of the device ID, 0-8 */
+    PIL_RECORD_DATA_LENGTH = 12, /* length of the data, 0-32 */
+    PIL_RECORD_SENT = 13,      /* bytes of the data already sent */
+    PIL_RECORD_LAST = 14,      /* last frame sent while sending: two bytes, little-endian */
+    PIL_RECORD_REPLY_SENT = 16, /* bytes of a status or ID reply already sent */
+    PIL_RECORD_ZEROS = 17,     /* seven zero bytes */
+    PIL_RECORD_ID = 24,        /* eight bytes: the device ID, zero past its length */
+    PIL_RECORD_DATA = 32       /* thirty-two bytes: the data, zero past its length */
+};
+
+/* Offsets in a link. */
+enum {
+    PIL_LINK_COUNT = 0, /* frames that the link holds, 0-4 */
+    PIL_LINK_ZERO = 1,  /* zero byte */
+    PIL_LINK_FRAMES = 2 /* four frames of two bytes, little-endian, oldest first, unused ones zero */
+};
+
+/* Talker states: a record's byte 5. */
+enum {
+    PIL_TALKER_IDLE = 0,      /* not addressed to talk */
+    PIL_TALKER_ADDRESSED = 1, /* addressed to talk, not sending */
+    PIL_TALKER_DATA = 2,      /* sending data */
+    PIL_TALKER_STATUS = 3,    /* sending its status */
+    PIL_TALKER_ID = 4,        /* sending its device ID */
+    PIL_TALKER_ACCESSORY = 5  /* sending its accessory ID */
+};
+
+/* Service states: a record's byte 6. */
+enum {
+    PIL_SERVICE_NONE = 0,   /* asks for nothing */
+    PIL_SERVICE_ASKING = 1, /* asks for service: sets C1 in each DAB, END and IDY it sends */
+    PIL_SERVICE_POLLED = 2  /* has sent its status since it asked */
+};
+
+/* What a hop answers. */
+struct pil_hopped {
+    uint16_t frame;  /* the frame sent */
+    uint8_t refusal; /* 0 if accepted */
+    uint8_t handed;  /* 1 if the device was handed a byte */
+    uint8_t byte;    /* the byte handed, else 0 */
+    uint8_t end;     /* its end bit, else 0 */
+};
+
+/* What a take answers. */
+struct pil_taken {
+    uint16_t frame;  /* the frame taken out at the tail */
+    uint8_t refusal; /* 0 if accepted */
+};
+
+/* What a drain answers. */
+struct pil_drained {
+    uint32_t hops;   /* hops made */
+    uint8_t refusal; /* 0 if accepted */
+    uint8_t reason;  /* why it stopped */
+    uint8_t device;  /* for PIL_STOP_HANDED the device, else 0 */
+    uint8_t byte;    /* for PIL_STOP_HANDED the byte handed, else 0 */
+    uint8_t end;     /* for PIL_STOP_HANDED its end bit, else 0 */
+};
+
+/* What the decoder answers. */
+struct pil_decoded {
+    uint8_t refusal; /* 0 if accepted */
+    uint8_t kind;    /* the frame's kind */
+};
+
+/* What the encoder answers. */
+struct pil_encoded {
+    uint16_t frame;  /* the kind's first code plus the offset */
+    uint8_t refusal; /* 0 if accepted */
+};
+
+/* The calls. A uint8_t answer is the refusal. Pointers are not null, at length 0 either; items and bytes to load lie
+   outside the area. Any number may be passed for a number. */
+
+/* Writes the power-on loop of the items' devices into the area, whatever that held. Gives 1, 2. */
+uint8_t pil_set_up(uint8_t *area, size_t area_len, const uint8_t *items, size_t items_len);
+/* Puts a frame into link 0. Gives 1, 2, 4, 6. */
+uint8_t pil_put(uint8_t *area, size_t area_len, uint64_t frame);
+/* Lets the device take its oldest frame and send one. Gives 1, 2, 3, 5, 6. */
+struct pil_hopped pil_hop(uint8_t *area, size_t area_len, uint64_t device);
+/* Takes the oldest frame out of the tail. Gives 1, 2, 5. */
+struct pil_taken pil_take(uint8_t *area, size_t area_len);
+/* Gives the device new data to send, none of it sent. Gives 1, 2, 3, 7, 8, 9. */
+uint8_t pil_load(uint8_t *area, size_t area_len, uint64_t device, const uint8_t *bytes, size_t bytes_len);
+/* Sets the device's status byte. Gives 1, 2, 3, 7. */
+uint8_t pil_status(uint8_t *area, size_t area_len, uint64_t device, uint8_t status);
+/* Has the device ask for service (any wish but 0) or no longer (0). Gives 1, 2, 3, 7. */
+uint8_t pil_wish(uint8_t *area, size_t area_len, uint64_t device, uint64_t wish);
+/* Hops the highest-numbered device that can, again and again, at most budget times. Gives 1, 2. */
+struct pil_drained pil_drain(uint8_t *area, size_t area_len, uint64_t budget);
+/* The kind of a frame. Gives 4. */
+struct pil_decoded pil_decode(uint64_t frame);
+/* The frame of a kind 1-42 at an offset from its first code. Gives 4. */
+struct pil_encoded pil_encode(uint64_t kind, uint64_t offset);
+
+#ifdef __cplusplus
+}
+#endif
+
+#endif

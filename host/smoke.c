@@ -1,0 +1,137 @@
+/* Runs the rows of 01, Rows for the table, and its cases at the limits through libpil.a, called as a bench calls it.
+   Prints each check that fails and exits 1, or one line that says how many held. */
+#include "pil.h"
+
+#include <stdio.h>
+#include <string.h>
+
+static uint8_t area[PIL_AREA_LENGTH(1)];
+static uint8_t *const record = area + PIL_RECORD_AT(0);
+static int held, failed;
+
+static void check(const char *what, unsigned long got, unsigned long expected)
+{
+    if (got == expected) {
+        held++;
+        return;
+    }
+    failed++;
+    printf("%s: %lx, expected %lx\n", what, got, expected);
+}
+
+/* One device with all abilities and no fixed address. */
+static void fresh(void)
+{
+    uint8_t item[PIL_ITEM_LENGTH] = {0xff, PIL_NO_ADDRESS};
+
+    check("set-up", pil_set_up(area, sizeof area, item, sizeof item), PIL_ACCEPTED);
+}
+
+/* Puts the frame, hops and takes: the frame sent. */
+static unsigned sends(unsigned frame)
+{
+    unsigned sent;
+
+    check("put", pil_put(area, sizeof area, frame), PIL_ACCEPTED);
+    sent = pil_hop(area, sizeof area, 0).frame;
+    check("frame taken", pil_take(area, sizeof area).frame, sent);
+    return sent;
+}
+
+static void at_5(void)
+{
+    fresh();
+    check("585 unconfigured", sends(0x585), 0x586);
+    check("address", record[PIL_RECORD_ADDRESS], 5);
+}
+
+static void talker_at_5(const char *data)
+{
+    at_5();
+    check("load", pil_load(area, sizeof area, 0, (const uint8_t *)data, strlen(data)), PIL_ACCEPTED);
+    check("445 at 5", sends(0x445), 0x445);
+    check("talker", record[PIL_RECORD_TALKER], PIL_TALKER_ADDRESSED);
+}
+
+static void address_rows(void)
+{
+    fresh();
+    check("row 2", sends(0x59f), 0x59f);
+    check("row 2, unconfigured", record[PIL_RECORD_CONFIGURED], 0);
+    check("row 1", sends(0x59e), 0x59f);
+    check("row 1, address", record[PIL_RECORD_ADDRESS], 30);
+    at_5();
+    check("row 3", sends(0x581), 0x581);
+    check("row 3, address", record[PIL_RECORD_ADDRESS], 5);
+    talker_at_5("");
+    check("row 4", sends(0x446), 0x446);
+    check("row 4, talker", record[PIL_RECORD_TALKER], PIL_TALKER_IDLE);
+}
+
+static void data_rows(void)
+{
+    talker_at_5("\x41\x42");
+    check("row 5", sends(0x560), 0x041);
+    check("row 5, talker", record[PIL_RECORD_TALKER], PIL_TALKER_DATA);
+    check("row 6", sends(0x041), 0x242);
+    check("row 7", sends(0x242), 0x540);
+    check("row 7, talker", record[PIL_RECORD_TALKER], PIL_TALKER_ADDRESSED);
+    talker_at_5("\x41\x42");
+    sends(0x560);
+    check("row 8", sends(0x043), 0x541);
+    talker_at_5("\x41\x42");
+    sends(0x560);
+    check("row 9", sends(0x141), 0x242);
+    talker_at_5("\x41\x42");
+    sends(0x560);
+    check("row 10, 542", sends(0x542), 0x542);
+    check("row 10, 041", sends(0x041), 0x540);
+    check("row 10, 560", sends(0x560), 0x242);
+    talker_at_5("");
+    check("560 with no data", sends(0x560), 0x540);
+}
+
+static void service_rows(void)
+{
+    talker_at_5("");
+    check("status", pil_status(area, sizeof area, 0, 0x20), PIL_ACCEPTED);
+    check("wish", pil_wish(area, sizeof area, 0, 1), PIL_ACCEPTED);
+    check("row 12, service 1", sends(0x600), 0x700);
+    check("row 11", sends(0x561), 0x020);
+    check("row 11, service", record[PIL_RECORD_SERVICE], PIL_SERVICE_POLLED);
+    check("row 12, service 2", sends(0x600), 0x600);
+}
+
+static void limits(void)
+{
+    static uint8_t longest[PIL_AREA_LENGTH(PIL_MOST_DEVICES + 1)], bytes[PIL_MOST_DATA + 1];
+    static const uint8_t items[PIL_ITEMS_LENGTH(PIL_MOST_DEVICES + 1)];
+
+    check("length of one", PIL_AREA_LENGTH(1), 92);
+    check("length of fifteen", PIL_AREA_LENGTH(15), 1128);
+    fresh();
+    check("put 2,047", pil_put(area, sizeof area, 2047), PIL_ACCEPTED);
+    check("put 2,048", pil_put(area, sizeof area, 2048), PIL_BAD_FRAME);
+    pil_put(area, sizeof area, 0);
+    pil_put(area, sizeof area, 0);
+    check("fourth frame", pil_put(area, sizeof area, 0), PIL_ACCEPTED);
+    check("fifth frame", pil_put(area, sizeof area, 0), PIL_FULL);
+    check("load 32", pil_load(area, sizeof area, 0, bytes, 32), PIL_ACCEPTED);
+    check("load 33", pil_load(area, sizeof area, 0, bytes, 33), PIL_TOO_LONG);
+    check("15 devices", pil_set_up(longest, PIL_AREA_LENGTH(15), items, PIL_ITEMS_LENGTH(15)), PIL_ACCEPTED);
+    check("16 devices", pil_set_up(longest, PIL_AREA_LENGTH(16), items, PIL_ITEMS_LENGTH(16)), PIL_SHAPE);
+    check("kind of 59f", pil_decode(0x59f).kind, PIL_KIND_IAA);
+    check("TAD 5", pil_encode(PIL_KIND_TAD, 5).frame, 0x445);
+}
+
+int main(void)
+{
+    address_rows();
+    data_rows();
+    service_rows();
+    limits();
+    if (failed)
+        return 1;
+    printf("smoke: %d checks hold\n", held);
+    return 0;
+}
