@@ -1,4 +1,5 @@
--- What a test that was passed, or failed, says of a value that it chooses. `search arms` answers a return from the tests on its way.
+-- What a test that was passed, or failed, says of a value that it chooses. `search arms` answers a return from the
+-- tests on its way.
 use Prim.Native.Nat.{ℕ, _+_, _≤_, _<_}
 use mathlib.Core.Path.{_≡_, refl, sym, _∙_}
 use mathlib.Core.Bool.{Bool, true, false, _||_}
@@ -70,5 +71,21 @@ plus n p = rw p
 pub either : {p q a b : Bool} → p ≡ a → q ≡ b → (p || q) ≡ (a || b)
 either e f = rw (e, f)
 
-pub ruleset arms =
-    (refl, when, unless, when-eq, unless-eq, when-lt, unless-lt, when-lt-of, unless-lt-of, sends-on, marked-on, continues-on, talking-on, accepted-on, plus, either)
+pub ruleset arms = (
+  refl,
+  when,
+  unless,
+  when-eq,
+  unless-eq,
+  when-lt,
+  unless-lt,
+  when-lt-of,
+  unless-lt-of,
+  sends-on,
+  marked-on,
+  continues-on,
+  talking-on,
+  accepted-on,
+  plus,
+  either,
+)

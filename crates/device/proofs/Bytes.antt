@@ -3,7 +3,8 @@ use Prim.Native.Nat.{ℕ, zero, suc, _+_, _-_, _≤_, _<_}
 use mathlib.Core.Path.{_≡_, refl, sym, ap, _∙_}
 use mathlib.Core.List.{List, [], _∷_, _++_}
 use native.Mathlib.Omega.{arith}
-use lib.ListN.{length, take, drop, getD, replicate, List·getD-eq-default, drop-of-length-le, length-append, length-take, length-drop, length-replicate, take-append-drop}
+use lib.ListN.{length, take, drop, getD, replicate, List·getD-eq-default, drop-of-length-le, length-append, length-take}
+use lib.ListN.{length-drop, length-replicate, take-append-drop}
 use lib.Seq.{drop-cons, take-all}
 use Rattle.device.specs.PowerOn.{bytesFrom}
 
@@ -42,13 +43,15 @@ drop-zeros (suc i) m = let e : suc i + m ≡ suc (i + m) = omega arith in rw e (
 rest : (m n k : ℕ) (b : List ℕ) → length b ≡ k + m → drop k b ++ replicate n 0 ≡ bytesFrom k (m + n) b
 unfolding bytesFrom
 rest zero n k b h =
-    let e : 0 + n ≡ n = omega arith in rw (e, drop-of-length-le b {i = k} (omega arith)) (zeros-from n k b (omega arith))
+    let e : 0 + n ≡ n = omega arith in rw (e, drop-of-length-le b {i = k} (omega arith))
+    (zeros-from n k b (omega arith))
 rest (suc m) n k b h =
     let e : suc m + n ≡ suc (m + n) = omega arith in
     rw (e, drop-cons b k 0 (omega arith)) (ap (λ (r : List ℕ). getD b k 0 ∷ r) (rest m n (suc k) b (omega arith)))
 
 -- a list copied into zeros
-pub padded-is : (b : List ℕ) (n : ℕ) → length b ≤ n → take (length b) b ++ drop (length b) (replicate n 0) ≡ bytesFrom 0 n b
+pub padded-is : (b : List ℕ) (n : ℕ) → length b ≤ n →
+    take (length b) b ++ drop (length b) (replicate n 0) ≡ bytesFrom 0 n b
 padded-is b n h =
     let m = n - length b in
     let e : n ≡ length b + m = omega arith in

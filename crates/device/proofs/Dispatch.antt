@@ -1,4 +1,5 @@
--- The rule of a frame's kind, where one is listed and where none is; and the number of an addressed message by its low five bits.
+-- The rule of a frame's kind, where one is listed and where none is; and the number of an addressed message by its low
+-- five bits.
 use Prim.Native.Nat.{ℕ, zero, suc, _≤_, _<_, _%_}
 use mathlib.Core.Path.{_≡_, refl, sym, ap, _∙_}
 use mathlib.Core.Logic.{⊎-elim}
@@ -66,7 +67,8 @@ abbrev pub rest : List Rule → ℕ → ℕ → List ℕ
 rest rs i zero = []
 rest rs i (suc n) = absent i rs (rest rs (suc i) n)
 
-pub other : (k : Kind) {x : Sent} (d : Device) (f : ℕ) → numberOf k ≡ kindAt f → OneOf (rest (rules d f) 0 43) (tagOf the-type k) →
+pub other : (k : Kind) {x : Sent} (d : Device) (f : ℕ) → numberOf k ≡ kindAt f →
+    OneOf (rest (rules d f) 0 43) (tagOf the-type k) →
     x ≡ sends d f → x ≡ takes d f
 unfolding takes
 other k d f e o h =
@@ -83,7 +85,8 @@ both-true false b h = let z : false ≡ true = h in (z, cc)
 abbrev fiveBits : ℕ → Bool
 fiveBits k = ltb 0 k && (eqb (firstOf k % 32) 0 && leb (codesOf k) 32)
 
-pub low-five : (j : Kind) {k : Kind} (f : ℕ) → numberOf k ≡ kindAt f → k ≡ j → fiveBits (numberOf j) ≡ true → f % 32 ≡ number j f
+pub low-five : (j : Kind) {k : Kind} (f : ℕ) → numberOf k ≡ kindAt f → k ≡ j → fiveBits (numberOf j) ≡ true →
+    f % 32 ≡ number j f
 low-five j {k} f e q t =
     let n = numberOf j in
     let a = both-true (ltb 0 n) (eqb (firstOf n % 32) 0 && leb (codesOf n) 32) t in

@@ -12,5 +12,6 @@ use Rattle.device.specs.Take.{takes}
 use Rattle.device.specs.Rows.{Row, seen, table}
 
 pub rows : map (λ (r : Row). seen (r .start) (r .frames)) table ≡ map (λ (r : Row). r .sees) table
-unfolding messages kindAt lookup within firstIn firstOf choose bytesFrom powerOn lad tad aau marked dataFrame otherByte otherLength sendsData sendsOther continues requested polls sst nrd aad returned heard dataOrEnd takes
+unfolding messages kindAt lookup within firstIn firstOf choose bytesFrom powerOn lad tad aau marked dataFrame otherByte
+    otherLength sendsData sendsOther continues requested polls sst nrd aad returned heard dataOrEnd takes
 rows = refl

@@ -31,7 +31,8 @@ changed d address configured listener talker service noted sent last replied =
 
 -- listener x
 abbrev pub listening : Device → ℕ → Device
-listening d x = changed d (d .address) (d .configured) x (d .talker) (d .service) (d .noted) (d .sent) (d .last) (d .replied)
+listening d x = changed d (d .address) (d .configured) x (d .talker) (d .service) (d .noted) (d .sent) (d .last)
+    (d .replied)
 
 -- talker x, nothing of a reply sent yet or any more: bytes 8, 14, 15, 16 are zero
 abbrev pub talking : Device → ℕ → Device
@@ -43,11 +44,13 @@ placed d a x = changed d a x (d .listener) (d .talker) (d .service) (d .noted) (
 
 -- service x
 abbrev pub serving : Device → ℕ → Device
-serving d x = changed d (d .address) (d .configured) (d .listener) (d .talker) x (d .noted) (d .sent) (d .last) (d .replied)
+serving d x = changed d (d .address) (d .configured) (d .listener) (d .talker) x (d .noted) (d .sent) (d .last)
+    (d .replied)
 
 -- NRD seen
 abbrev pub noting : Device → Device
-noting d = changed d (d .address) (d .configured) (d .listener) (d .talker) (d .service) 1 (d .sent) (d .last) (d .replied)
+noting d = changed d (d .address) (d .configured) (d .listener) (d .talker) (d .service) 1 (d .sent) (d .last)
+    (d .replied)
 
 -- last frame sent f, bytes of the data sent s, bytes of another reply sent r
 abbrev pub counting : Device → (f s r : ℕ) → Device

@@ -21,7 +21,8 @@ unl d = listening d 0
 unfoldable pub tad : Device → ℕ → Device
 tad d a =
     choose (eqb a (d .address))
-    (choose (talks d) (choose (has d unaddress) (talking (listening d 0) addressed) (talking d addressed)) (talking d idle))
+    (choose (talks d) (choose (has d unaddress) (talking (listening d 0) addressed) (talking d addressed))
+    (talking d idle))
     (talking d idle)
 
 -- UNT: talker 0

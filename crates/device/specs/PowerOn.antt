@@ -1,4 +1,5 @@
--- A device at power-on, from its set-up item (01, The calls): abilities, fixed address, accessory ID, ID length, 8 ID bytes.
+-- A device at power-on, from its set-up item (01, The calls): abilities, fixed address, accessory ID, ID length, 8 ID
+-- bytes.
 use Prim.Native.Nat.{ℕ, zero, suc}
 use mathlib.Core.List.{List, [], _∷_}
 use lib.ListN.{getD, replicate}

@@ -1,4 +1,5 @@
--- 01's rows 1 to 12: one device, abilities ff, fixed address 1f, with what a row names; frames, and what is seen after each.
+-- 01's rows 1 to 12: one device, abilities ff, fixed address 1f, with what a row names; frames, and what is seen after
+-- each.
 use Prim.Native.Nat.{ℕ}
 use mathlib.Core.List.{List, [], _∷_}
 use Rattle.device.specs.Device.{addressed, asking, polled}

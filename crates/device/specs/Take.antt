@@ -3,7 +3,8 @@ use Prim.Native.Nat.{ℕ, _-_}
 use mathlib.Core.List.{List, [], _∷_}
 use lib.Dec.{eqb}
 use Rattle.frame.specs.declared.Kind.{Kind}
-use Rattle.frame.specs.declared.Kind.the-variants.{Dab, End, Lad, Unl, Tad, Unt, Ifc, Aau, Nrd, Sda, Sst, Sdi, Sai, Aad, Idy}
+use Rattle.frame.specs.declared.Kind.the-variants.{Dab, End, Lad, Unl, Tad, Unt, Ifc, Aau, Nrd, Sda, Sst, Sdi, Sai, Aad}
+use Rattle.frame.specs.declared.Kind.the-variants.{Idy}
 use Rattle.frame.specs.Messages.{numberOf, kindAt, firstOf}
 use Rattle.device.specs.Choose.{choose}
 use Rattle.device.specs.Device.{sendData, deviceID, accessoryID, sendingData, sendingDeviceID, sendingAccessoryID}

@@ -5,7 +5,8 @@ use crate::Sent;
 ghost use mathlib.Core.Path.{_≡_};
 ghost use Prim.Native.Nat.{_<_};
 ghost use lib.ListN.{getD};
-ghost use Rattle.device.specs.Reply.{sends, marked, stops, dataFrame, otherByte, otherLength, sendsData, sendsOther, continues};
+ghost use Rattle.device.specs.Reply.{sends, marked, stops, dataFrame, otherByte, otherLength, sendsData};
+ghost use Rattle.device.specs.Reply.{sendsOther, continues};
 
 pub(crate) const ETO: u16 = 0x540;
 

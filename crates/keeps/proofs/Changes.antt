@@ -66,7 +66,8 @@ module _ (d : Device) (k : Kept d) where
       }
 
   -- the fixed address and unconfigured, or an address 0-30 and configured
-  pub placed-kept : (a x : ℕ) → a ≤ 31 → x ≤ 1 → (x ≡ 0 → a ≡ d .fixed) → (x ≡ 1 → has d 32 ≡ true) → (x ≡ 1 → a < 31) → Kept (placed d a x)
+  pub placed-kept : (a x : ℕ) → a ≤ 31 → x ≤ 1 → (x ≡ 0 → a ≡ d .fixed) → (x ≡ 1 → has d 32 ≡ true) →
+      (x ≡ 1 → a < 31) → Kept (placed d a x)
   placed-kept a x m n f h b =
       record {
         sized = k .sized;
@@ -126,7 +127,8 @@ module _ (d : Device) (k : Kept d) where
       }
 
   -- data for a device that is not sending any: what is past its end is zero
-  pub loading-kept : (bs : List ℕ) → Bytes bs → length bs ≤ 32 → has d 2 ≡ true → (d .talker ≡ 2 → ⊥) → Kept (loading d bs)
+  pub loading-kept : (bs : List ℕ) → Bytes bs → length bs ≤ 32 → has d 2 ≡ true → (d .talker ≡ 2 → ⊥) →
+      Kept (loading d bs)
   loading-kept bs b m h n =
       let t = k .talks in
       record {

@@ -1,4 +1,5 @@
--- Soundness, sorted by what a change touches: six groups of facts, each of which reads only some of the fields. A change leaves
+-- Soundness, sorted by what a change touches: six groups of facts, each of which reads only some of the fields. A
+-- change leaves
 -- the groups alone that do not read what it changes.
 use Prim.Native.Nat.{ℕ, suc, _≤_, _<_}
 use mathlib.Core.Path.{_≡_, refl}
@@ -11,7 +12,9 @@ use borrow.Author.Tests.{eqb-true, leb-true, ltb-true, ltb-false, not-true, eq-e
 use Rattle.device.specs.Device.{has, talks}
 use Rattle.device.specs.declared.Device.{Device}
 use Rattle.record.specs.Record.{zeros}
-use Rattle.record.specs.Sound.{only, inRange, zeroPast, serviceWithStatus, unaddressWithBoth, unconfiguredFixed, configuredAble, listenerAble, serviceAble, sendingAble, addressedAble, dataAble, sentWithin, repliedRight, quietOutside, lastBelow, soundDevice}
+use Rattle.record.specs.Sound.{only, inRange, zeroPast, serviceWithStatus, unaddressWithBoth, unconfiguredFixed}
+use Rattle.record.specs.Sound.{configuredAble, listenerAble, serviceAble, sendingAble, addressedAble, dataAble}
+use Rattle.record.specs.Sound.{sentWithin, repliedRight, quietOutside, lastBelow, soundDevice}
 use Rattle.record.specs.Fits.{Bytes, Fits, Good}
 use Rattle.record.proofs.Both.{left, right, both-true}
 
@@ -149,8 +152,10 @@ joined (b ∷ c ∷ bs) e = both-true (e .0) (joined (c ∷ bs) (e .1))
 
 abbrev clauses : Device → List Bool
 clauses d =
-    inRange d ∷ zeroPast d ∷ serviceWithStatus d ∷ unaddressWithBoth d ∷ unconfiguredFixed d ∷ configuredAble d ∷ listenerAble d ∷
-    serviceAble d ∷ sendingAble d ∷ addressedAble d ∷ dataAble d ∷ sentWithin d ∷ repliedRight d ∷ quietOutside d ∷ lastBelow d ∷ []
+    inRange d ∷ zeroPast d ∷ serviceWithStatus d ∷ unaddressWithBoth d ∷ unconfiguredFixed d ∷ configuredAble d ∷
+    listenerAble d ∷
+    serviceAble d ∷ sendingAble d ∷ addressedAble d ∷ dataAble d ∷ sentWithin d ∷ repliedRight d ∷ quietOutside d ∷
+    lastBelow d ∷ []
 
 abbrev ranges : Device → List Bool
 ranges d =
@@ -165,7 +170,8 @@ states d =
 abbrev counts : Device → List Bool
 counts d =
     only (eqb (d .talker) 3) (eqb (d .replied) 1) ∷ only (eqb (d .talker) 5) (eqb (d .replied) 1) ∷
-    only (eqb (d .talker) 4) (leb 1 (d .replied) && leb (d .replied) (d .idlength)) ∷ only (leb (d .talker) 2) (eqb (d .replied) 0) ∷ []
+    only (eqb (d .talker) 4) (leb 1 (d .replied) && leb (d .replied) (d .idlength)) ∷ only (leb (d .talker) 2)
+    (eqb (d .replied) 0) ∷ []
 
 module _ (d : Device) (g : Good d) where
   sounds : Each (clauses d)
@@ -185,7 +191,8 @@ module _ (d : Device) (g : Good d) where
   count = each (counts d) (sounds .1 .1 .1 .1 .1 .1 .1 .1 .1 .1 .1 .1 .0)
 
   sent : Each (leb (d .sent) (d .loadlength) ∷ only (eqb (d .talker) 2) (leb 1 (d .sent)) ∷ [])
-  sent = each (leb (d .sent) (d .loadlength) ∷ only (eqb (d .talker) 2) (leb 1 (d .sent)) ∷ []) (sounds .1 .1 .1 .1 .1 .1 .1 .1 .1 .1 .1 .0)
+  sent = each (leb (d .sent) (d .loadlength) ∷ only (eqb (d .talker) 2) (leb 1 (d .sent)) ∷ [])
+      (sounds .1 .1 .1 .1 .1 .1 .1 .1 .1 .1 .1 .0)
 
   talked : Talks d
   talked =
@@ -201,9 +208,12 @@ module _ (d : Device) (g : Good d) where
         some = λ e. leb-true _ _ (eq-out (sent .1 .0) e);
         one3 = λ e. eqb-true _ _ (eq-out (count .0) e);
         one5 = λ e. eqb-true _ _ (eq-out (count .1 .0) e);
-        within = λ e. let p = each (leb 1 (d .replied) ∷ leb (d .replied) (d .idlength) ∷ []) (eq-out (count .1 .1 .0) e) in (leb-true _ _ (p .0), leb-true _ _ (p .1 .0));
+        within = λ e. let p = each (leb 1 (d .replied) ∷ leb (d .replied) (d .idlength) ∷ [])
+            (eq-out (count .1 .1 .0) e) in (leb-true _ _ (p .0), leb-true _ _ (p .1 .0));
         none = λ e. eqb-true _ _ (le-out (count .1 .1 .1 .0) e);
-        quiet = λ e. let p = each (eqb (d .noted) 0 ∷ eqb (d .last) 0 ∷ []) (not-out (sounds .1 .1 .1 .1 .1 .1 .1 .1 .1 .1 .1 .1 .1 .0) e) in (eqb-true _ _ (p .0), eqb-true _ _ (p .1 .0));
+        quiet = λ e. let p = each (eqb (d .noted) 0 ∷ eqb (d .last) 0 ∷ [])
+            (not-out (sounds .1 .1 .1 .1 .1 .1 .1 .1 .1 .1 .1 .1 .1 .0) e) in
+            (eqb-true _ _ (p .0), eqb-true _ _ (p .1 .0));
       }
 
   pub kept-of : Kept d
@@ -258,7 +268,13 @@ module _ (d : Device) (k : Kept d) where
               le-leb _ _ (k .listens .listener),
               (
                 le-leb _ _ (k .talks .talker),
-                (le-leb _ _ (k .serves .service), (le-leb _ _ (k .talks .noted), (le-leb _ _ (k .made .idlength), (le-leb _ _ (k .loads .loadlength), tt)))),
+                (
+                  le-leb _ _ (k .serves .service),
+                  (
+                    le-leb _ _ (k .talks .noted),
+                    (le-leb _ _ (k .made .idlength), (le-leb _ _ (k .loads .loadlength), tt)),
+                  ),
+                ),
               ),
             ),
           ),
@@ -267,8 +283,10 @@ module _ (d : Device) (k : Kept d) where
 
   states-of : sendingAble d ≡ true
   states-of =
-      joined (states d)
-      (eq-in (k .talks .sendsData), (eq-in (k .talks .sendsStatus), (eq-in (k .talks .sendsID), (eq-in (k .talks .sendsAccessory), tt))))
+      joined (states d) (
+        eq-in (k .talks .sendsData),
+        (eq-in (k .talks .sendsStatus), (eq-in (k .talks .sendsID), (eq-in (k .talks .sendsAccessory), tt))),
+      )
 
   counts-of : repliedRight d ≡ true
   counts-of =

@@ -1,4 +1,5 @@
--- The theorems of specs/Keeps.antt: rule by rule in the papers' order, and then whichever rule the frame's kind selects.
+-- The theorems of specs/Keeps.antt: rule by rule in the papers' order, and then whichever rule the frame's kind
+-- selects.
 use Prim.Native.Nat.{ℕ, _+_, _-_, _≤_, _<_}
 use mathlib.Core.Path.{_≡_, refl, sym, ap, _∙_}
 use mathlib.Core.Bool.{Bool, true, false}
@@ -25,7 +26,8 @@ use Rattle.device.specs.declared.Called.{Called}
 use Rattle.record.specs.Fits.{Good}
 use Rattle.keeps.specs.Keeps.{TakeKeeps, TakeBelow, LoadKeeps, StatusKeeps, WishKeeps, LeavingZeroes}
 use Rattle.keeps.proofs.Groups.{Kept, kept-of, good-of, lt-out}
-use Rattle.keeps.proofs.Changes.{listening-kept, resting-kept, placed-kept, serving-kept, noting-kept, loading-kept, statusing-kept}
+use Rattle.keeps.proofs.Changes.{listening-kept, resting-kept, placed-kept, serving-kept, noting-kept}
+use Rattle.keeps.proofs.Changes.{loading-kept, statusing-kept}
 use Rattle.keeps.proofs.Replies.{chosen, Out, marked-below, Others, others, Sends, stops-out, continues-out}
 
 -- the frame goes on, and the device after it is sound
@@ -54,7 +56,8 @@ module _ (d : Device) (k : Kept d) where
       heard-kept : has d 1 ≡ true → Kept (choose (has d 64) (talking (listening d 1) 0) (listening d 1))
       heard-kept h =
           let l : Kept (listening d 1) = listening-kept d k 1 (omega arith) (λ e. h) in
-          chosen Kept (has d 64) _ _ (λ u. resting-kept (listening d 1) l 0 (omega arith) (λ e. absurd (omega arith))) (λ u. l)
+          chosen Kept (has d 64) _ _ (λ u. resting-kept (listening d 1) l 0 (omega arith) (λ e. absurd (omega arith)))
+          (λ u. l)
 
   tad-kept : (a : ℕ) → Kept (tad d a)
   unfolding tad
@@ -73,7 +76,8 @@ module _ (d : Device) (k : Kept d) where
   unfolding aau
   aau-kept =
       chosen Kept (has d 32) _ d
-      (λ h. placed-kept d k (d .fixed) 0 (k .made .fixed) (omega arith) (λ e. refl) (λ e. absurd (omega arith)) (λ e. absurd (omega arith)))
+      (λ h. placed-kept d k (d .fixed) 0 (k .made .fixed) (omega arith) (λ e. refl) (λ e. absurd (omega arith))
+      (λ e. absurd (omega arith)))
       (λ h. k)
 
 -- ---- ready frames
@@ -83,25 +87,40 @@ module _ (d : Device) (k : Kept d) where
   about : (s : ℕ) → 1 < s → s ≤ 5 → (s ≡ 2 → has d 2 ≡ true) → (s ≡ 3 → has d 4 ≡ true) → (s ≡ 4 → has d 8 ≡ true) →
       (s ≡ 5 → has d 16 ≡ true) → Sends (talking d s)
   about s l h a b c e =
-      record { low = l; high = h; noted = omega arith; asData = a; asStatus = b; asID = c; asAccessory = e; none = λ i. refl }
+      record {
+        low = l;
+        high = h;
+        noted = omega arith;
+        asData = a;
+        asStatus = b;
+        asID = c;
+        asAccessory = e;
+        none = λ i. refl;
+      }
 
   to-data : has d 2 ≡ true → Sends (talking d 2)
-  to-data h = about 2 (omega arith) (omega arith) (λ e. h) (λ e. absurd (omega arith)) (λ e. absurd (omega arith)) (λ e. absurd (omega arith))
+  to-data h = about 2 (omega arith) (omega arith) (λ e. h) (λ e. absurd (omega arith)) (λ e. absurd (omega arith))
+      (λ e. absurd (omega arith))
 
   to-status : has d 4 ≡ true → Sends (talking d 3)
-  to-status h = about 3 (omega arith) (omega arith) (λ e. absurd (omega arith)) (λ e. h) (λ e. absurd (omega arith)) (λ e. absurd (omega arith))
+  to-status h = about 3 (omega arith) (omega arith) (λ e. absurd (omega arith)) (λ e. h) (λ e. absurd (omega arith))
+      (λ e. absurd (omega arith))
 
   to-id : has d 8 ≡ true → Sends (talking d 4)
-  to-id h = about 4 (omega arith) (omega arith) (λ e. absurd (omega arith)) (λ e. absurd (omega arith)) (λ e. h) (λ e. absurd (omega arith))
+  to-id h = about 4 (omega arith) (omega arith) (λ e. absurd (omega arith)) (λ e. absurd (omega arith)) (λ e. h)
+      (λ e. absurd (omega arith))
 
   to-accessory : has d 16 ≡ true → Sends (talking d 5)
-  to-accessory h = about 5 (omega arith) (omega arith) (λ e. absurd (omega arith)) (λ e. absurd (omega arith)) (λ e. absurd (omega arith)) (λ e. h)
+  to-accessory h = about 5 (omega arith) (omega arith) (λ e. absurd (omega arith)) (λ e. absurd (omega arith))
+      (λ e. absurd (omega arith)) (λ e. h)
 
-  requested-out : (f ability state : ℕ) → (has d ability ≡ true → Sends (talking d state)) → Out f (requested d f ability state)
+  requested-out : (f ability state : ℕ) → (has d ability ≡ true → Sends (talking d state)) →
+      Out f (requested d f ability state)
   unfolding requested
   requested-out f ability state s =
       chosen (Out f) (eqb (d .talker) 1) _ _
-      (λ e. chosen (Out f) (has d ability) _ _ (λ h. continues-out (talking d state) (others d k) (s h) f) (λ h. passes d f k))
+      (λ e. chosen (Out f) (has d ability) _ _ (λ h. continues-out (talking d state) (others d k) (s h) f)
+      (λ h. passes d f k))
       (λ e. passes d f k)
 
   polls-kept : Kept (polls d)
@@ -124,7 +143,8 @@ module _ (d : Device) (k : Kept d) (f : ℕ) where
   sst-out =
       chosen (Out f) (eqb (d .talker) 1) _ _
       (λ e. chosen (Out f) (has d status) _ _
-      (λ h. continues-out (talking (polls d) 3) (others (polls d) (polls-kept d k)) (to-status (polls d) (polls-kept d k) (polls-able d k true h)) f)
+      (λ h. continues-out (talking (polls d) 3) (others (polls d) (polls-kept d k))
+      (to-status (polls d) (polls-kept d k) (polls-able d k true h)) f)
       (λ h. passes d f k))
       (λ e. passes d f k)
 
@@ -142,7 +162,8 @@ module _ (d : Device) (k : Kept d) (f : ℕ) where
       chosen (Out f) (eqb (d .configured) 0) _ _
       (λ c. chosen (Out f) (has d 32) _ _
       (λ h. record {
-        device = placed-kept d k (f - 1408) 1 (omega arith) (omega arith) (λ i. absurd (omega arith)) (λ i. h) (λ i. omega arith);
+        device = placed-kept d k (f - 1408) 1 (omega arith) (omega arith) (λ i. absurd (omega arith)) (λ i. h)
+            (λ i. omega arith);
         frame = λ i. omega arith;
       })
       (λ h. passes d f k))
@@ -169,7 +190,8 @@ module _ (d : Device) (k : Kept d) (f : ℕ) where
   returned-out h =
       let o = others d k in
       chosen (Out f) _ _ _
-      (λ e. chosen (Out f) (eqb (d .noted) 1) _ _ (λ i. stops-out d o (still h) f eto (omega arith)) (λ i. continues-out d o (still h) f))
+      (λ e. chosen (Out f) (eqb (d .noted) 1) _ _ (λ i. stops-out d o (still h) f eto (omega arith))
+      (λ i. continues-out d o (still h) f))
       (λ e. stops-out d o (still h) f ete (omega arith))
 
   marked-out : Out f (sends d (marked d f))
@@ -177,7 +199,8 @@ module _ (d : Device) (k : Kept d) (f : ℕ) where
 
   heard-out : Out f (heard d f)
   unfolding heard
-  heard-out = chosen (Out f) (eqb (d .listener) 1) _ _ (λ e. record { device = k; frame = λ i. marked-below d f 4 (omega arith) }) (λ e. marked-out)
+  heard-out = chosen (Out f) (eqb (d .listener) 1) _ _
+      (λ e. record { device = k; frame = λ i. marked-below d f 4 (omega arith) }) (λ e. marked-out)
 
   data-out : Out f (dataOrEnd d f)
   unfolding dataOrEnd
@@ -189,9 +212,11 @@ abbrev Each : (Rule → Type 0) → List Rule → Type 0
 Each P [] = Unit {0}
 Each P (r ∷ rs) = P r × Each P rs
 
-selected : (P : Sent → Type 0) (k : ℕ) (rs : List Rule) (s : Sent) → Each (λ r. k ≡ r .kind → P (r .gives)) rs → P s → P (select k rs s)
+selected : (P : Sent → Type 0) (k : ℕ) (rs : List Rule) (s : Sent) → Each (λ r. k ≡ r .kind → P (r .gives)) rs → P s →
+    P (select k rs s)
 selected P k [] s e h = h
-selected P k (r ∷ rs) s e h = chosen P (eqb k (r .kind)) _ _ (λ t. e .0 (eqb-true _ _ t)) (λ t. selected P k rs s (e .1) h)
+selected P k (r ∷ rs) s e h = chosen P (eqb k (r .kind)) _ _ (λ t. e .0 (eqb-true _ _ t))
+    (λ t. selected P k rs s (e .1) h)
 
 take-out : (d : Device) (f : ℕ) → Kept d → Out f (takes d f)
 unfolding takes
@@ -217,7 +242,13 @@ take-out d f k =
                       λ e. requested-out d k f 8 4 (to-id d k),
                       (
                         λ e. requested-out d k f 16 5 (to-accessory d k),
-                        (λ e. go _ (nrd-kept d k f), (λ e. aad-out d k f e, (λ e. data-out d k f, (λ e. data-out d k f, (λ e. marked-out d k f, tt))))),
+                        (
+                          λ e. go _ (nrd-kept d k f),
+                          (
+                            λ e. aad-out d k f e,
+                            (λ e. data-out d k f, (λ e. data-out d k f, (λ e. marked-out d k f, tt))),
+                          ),
+                        ),
                       ),
                     ),
                   ),
@@ -257,7 +288,8 @@ load-good d bs b g =
 pub status-good : StatusKeeps
 unfolding setsStatus
 status-good d s b g =
-    chosen (λ (c : Called). Good (c .device)) (has d status) _ _ (λ h. good-of _ (statusing-kept d (kept-of d g) s b)) (λ h. g)
+    chosen (λ (c : Called). Good (c .device)) (has d status) _ _ (λ h. good-of _ (statusing-kept d (kept-of d g) s b))
+    (λ h. g)
 
 pub wish-good : WishKeeps
 unfolding wishes wishing
@@ -265,5 +297,6 @@ wish-good d w g =
     chosen (λ (c : Called). Good (c .device)) (has d 128) _ _
     (λ h. chosen Good (eqb w 0) _ _
     (λ e. good-of _ (serving-kept d (kept-of d g) 0 (omega arith) (λ i. h)))
-    (λ e. chosen Good (eqb (d .service) 0) _ d (λ i. good-of _ (serving-kept d (kept-of d g) 1 (omega arith) (λ i. h))) (λ i. g)))
+    (λ e. chosen Good (eqb (d .service) 0) _ d
+    (λ i. good-of _ (serving-kept d (kept-of d g) 1 (omega arith) (λ i. h))) (λ i. g)))
     (λ h. g)

@@ -1,4 +1,5 @@
--- A talker's replies keep it sound: what it sends is a byte with its bits, and it counts no further than the reply is long.
+-- A talker's replies keep it sound: what it sends is a byte with its bits, and it counts no further than the reply is
+-- long.
 use Prim.Native.Nat.{ℕ, zero, suc, _+_, _*_, _/_, _%_, _≤_, _<_}
 use mathlib.Core.Path.{_≡_, refl, sym, _∙_}
 use mathlib.Core.Bool.{Bool, true, false, _||_}
@@ -16,7 +17,8 @@ use Rattle.keeps.proofs.Groups.{Kept, Sized, Made, Placed, Listens, Ser
 use Rattle.keeps.proofs.Changes.{rested}
 
 -- what holds of both values holds of the one that is chosen
-pub chosen : {A : Type 0} (P : A → Type 0) (b : Bool) (x y : A) → (b ≡ true → P x) → (b ≡ false → P y) → P (choose b x y)
+pub chosen : {A : Type 0} (P : A → Type 0) (b : Bool) (x y : A) → (b ≡ true → P x) → (b ≡ false → P y) →
+    P (choose b x y)
 unfolding choose
 chosen P true x y h k = h refl
 chosen P false x y h k = k refl
@@ -34,13 +36,21 @@ pub marked-below : (d : Device) (f m : ℕ) → f < 512 * m → marked d f < 512
 unfolding marked
 marked-below d f m h =
     chosen (λ x. x < 512 * m) (eqb (d .service) 1) _ f
-    (λ e. chosen (λ x. x < 512 * m) (eqb (f / 256 % 2) 1) f (f + 256) (λ e. h) (λ e. clear f m (eqb-false (f / 256 % 2) 1 e) h))
+    (λ e. chosen (λ x. x < 512 * m) (eqb (f / 256 % 2) 1) f (f + 256) (λ e. h)
+    (λ e. clear f m (eqb-false (f / 256 % 2) 1 e) h))
     (λ e. h)
 
 -- all groups but the talker's
 abbrev pub Others : Device → Type 0
 Others d =
-    record { sized : Sized d; made : Made d; placed : Placed d; listens : Listens d; serves : Serves d; loads : Loads d }
+    record {
+      sized : Sized d;
+      made : Made d;
+      placed : Placed d;
+      listens : Listens d;
+      serves : Serves d;
+      loads : Loads d;
+    }
 
 pub others : (d : Device) → Kept d → Others d
 others d k =
@@ -81,8 +91,10 @@ sends-talks d s = go (d .talker) refl
     go (suc zero) e = absurd (omega (arith, s .low))
     go (suc (suc zero)) e = or-left (has d 2) (has d 4 || (has d 8 || has d 16)) (s .asData e)
     go (suc (suc (suc zero))) e = or-right (has d 2) _ (or-left (has d 4) (has d 8 || has d 16) (s .asStatus e))
-    go (suc (suc (suc (suc zero)))) e = or-right (has d 2) _ (or-right (has d 4) _ (or-left (has d 8) (has d 16) (s .asID e)))
-    go (suc (suc (suc (suc (suc zero))))) e = or-right (has d 2) _ (or-right (has d 4) _ (or-right (has d 8) (has d 16) (s .asAccessory e)))
+    go (suc (suc (suc (suc zero)))) e = or-right (has d 2) _
+        (or-right (has d 4) _ (or-left (has d 8) (has d 16) (s .asID e)))
+    go (suc (suc (suc (suc (suc zero))))) e = or-right (has d 2) _
+        (or-right (has d 4) _ (or-right (has d 8) (has d 16) (s .asAccessory e)))
     go (suc (suc (suc (suc (suc (suc t)))))) e = absurd (omega (arith, s .high))
 
 module _ (d : Device) (o : Others d) (s : Sends d) where
@@ -197,5 +209,7 @@ module _ (d : Device) (o : Others d) (s : Sends d) where
   unfolding continues
   continues-out f =
       chosen (Out f) (eqb (d .talker) 2) _ _
-      (λ e. chosen (Out f) (ltb (d .sent) (d .loadlength)) _ _ (λ h. data-out f (eqb-true _ _ e) (ltb-true _ _ h)) (λ h. stops-out f eto (omega arith)))
-      (λ e. chosen (Out f) (ltb (d .replied) (otherLength d)) _ _ (λ h. other-out f (eqb-false _ _ e) (ltb-true _ _ h)) (λ h. stops-out f eto (omega arith)))
+      (λ e. chosen (Out f) (ltb (d .sent) (d .loadlength)) _ _ (λ h. data-out f (eqb-true _ _ e) (ltb-true _ _ h))
+      (λ h. stops-out f eto (omega arith)))
+      (λ e. chosen (Out f) (ltb (d .replied) (otherLength d)) _ _
+      (λ h. other-out f (eqb-false _ _ e) (ltb-true _ _ h)) (λ h. stops-out f eto (omega arith)))

@@ -1,4 +1,5 @@
--- The laws of specs/Laws.antt. Head, ID and data stand at fixed places, so that each field is read where it was written; a sound
+-- The laws of specs/Laws.antt. Head, ID and data stand at fixed places, so that each field is read where it was
+-- written; a sound
 -- record's other bytes are zero, as those of a written one are.
 use mathlib.Core.Path.{_≡_, refl, sym, ap, _∙_}
 use mathlib.Core.List.{List, [], _∷_, _++_}
@@ -73,7 +74,8 @@ zeros-seven a b c d e f g h = (
 module _ (b : List ℕ) (h : soundRecord b ≡ true) where
   seventh : getD b 7 0 ≡ 0
   unfolding soundRecord
-  seventh = eqb-true (getD b 7 0) 0 (left (eqb (getD b 7 0) 0) (zeros (take 7 (drop 17 b)) && soundDevice (deviceOf b)) h)
+  seventh = eqb-true (getD b 7 0) 0
+      (left (eqb (getD b 7 0) 0) (zeros (take 7 (drop 17 b)) && soundDevice (deviceOf b)) h)
 
   inner : (zeros (take 7 (drop 17 b)) && soundDevice (deviceOf b)) ≡ true
   unfolding soundRecord
@@ -87,16 +89,23 @@ module _ (b : List ℕ) (h : soundRecord b ≡ true) where
 
 three : (b : List ℕ) → length b ≡ 64 → take 24 b ++ (take 8 (drop 24 b) ++ take 32 (drop 32 b)) ≡ b
 three b len =
-    rw (← (drop-drop 8 24 b), take-all 32 (drop 8 (drop 24 b)) (simp (length-drop, len) (omega arith)), take-append-drop, take-append-drop)
+    rw (
+      ← (drop-drop 8 24 b),
+      take-all 32 (drop 8 (drop 24 b)) (simp (length-drop, len) (omega arith)),
+      take-append-drop,
+      take-append-drop,
+    )
 
 head-back : (b : List ℕ) → length b ≡ 64 → Bytes b → soundRecord b ≡ true → headOf (deviceOf b) ≡ take 24 (drop 0 b)
 unfolding deviceOf bytesFrom
 head-back b len small h =
     let s : zeros (bytesFrom 17 7 b) ≡ true = rw (take-bytes 7 17 b (omega arith)) at (spare b h) in
-    let z = zeros-seven (getD b 17 0) (getD b 18 0) (getD b 19 0) (getD b 20 0) (getD b 21 0) (getD b 22 0) (getD b 23 0) s in
+    let z = zeros-seven (getD b 17 0) (getD b 18 0) (getD b 19 0) (getD b 20 0) (getD b 21 0) (getD b 22 0)
+    (getD b 23 0) s in
     let lo = low-of (getD b 14 0) (getD b 15 0) (small 14) in
     let hi = high-of (getD b 14 0) (getD b 15 0) (small 14) in
-    let e : headOf (deviceOf b) ≡ bytesFrom 0 24 b = simp (lo, hi, seventh b h, z .0, z .1, z .2, z .3, z .4, z .5, z .6) in
+    let e : headOf (deviceOf b) ≡ bytesFrom 0 24 b = simp
+    (lo, hi, seventh b h, z .0, z .1, z .2, z .3, z .4, z .5, z .6) in
     e ∙ sym (take-bytes 24 0 b (omega arith))
 
 -- a stretch of the record, read and written
@@ -109,7 +118,8 @@ record-back b len small h =
     rw (stretch-back b 24 8 (omega arith), stretch-back b 32 32 (omega arith))
     (ap (λ (x : List ℕ). x ++ (take 8 (drop 24 b) ++ take 32 (drop 32 b))) (head-back b len small h) ∙ three b len)
 
-spared : (d : Device) → soundDevice d ≡ true → (eqb (getD (recordOf d) 7 0) 0 && (zeros (take 7 (drop 17 (recordOf d))) && soundDevice d)) ≡ true
+spared : (d : Device) → soundDevice d ≡ true →
+    (eqb (getD (recordOf d) 7 0) 0 && (zeros (take 7 (drop 17 (recordOf d))) && soundDevice d)) ≡ true
 unfolding recordOf zeros
 spared d s = s
 

@@ -10,7 +10,8 @@ use Rattle.record.specs.Parts.{splice, Put}
 
 -- the whole of a part, copied into as many bytes that were lent
 pub filled : (to part : List ℕ) (at : ℕ) → at + length part ≤ length to →
-    take at to ++ ((take (length part) part ++ drop (length part) (take (at + length part - at) (drop at to))) ++ drop (at + length part - at) (drop at to))
+    take at to ++ ((take (length part) part ++ drop (length part) (take (at + length part - at) (drop at to))) ++ drop
+    (at + length part - at) (drop at to))
     ≡ splice at part to
 unfolding splice
 filled to part at h =
@@ -45,6 +46,8 @@ laid r h i l e =
     rw (first r h, behind h x i, ← append-assoc h i (drop (length i) x))
     (last (h ++ i) (drop (length i) x) l (length h + length i) (sym (length-append h i)) z ∙ append-assoc h i l)
 
-pub written : (r h i l : List ℕ) {r₁ r₂ r₃ : List ℕ} → length r ≡ 64 → Put 0 24 h r r₁ → Put 24 8 i r₁ r₂ → Put 32 32 l r₂ r₃ → r₃ ≡ h ++ (i ++ l)
+pub written : (r h i l : List ℕ) {r₁ r₂ r₃ : List ℕ} → length r ≡ 64 → Put 0 24 h r r₁ → Put 24 8 i r₁ r₂ →
+    Put 32 32 l r₂ r₃ → r₃ ≡ h ++ (i ++ l)
 written r h i l e p q o =
-    let z = laid r h i l (omega (arith, p .long, q .long, o .long)) in rw (o .is, q .is, p .is) (rw (p .long, q .long) at z)
+    let z = laid r h i l (omega (arith, p .long, q .long, o .long)) in rw (o .is, q .is, p .is)
+    (rw (p .long, q .long) at z)

@@ -1,4 +1,5 @@
--- What the types of the code's device say, said of the numbers of the definitions; and the devices that a sound area holds.
+-- What the types of the code's device say, said of the numbers of the definitions; and the devices that a sound area
+-- holds.
 use Prim.Native.Nat.{ℕ, _<_}
 use mathlib.Core.Path.{_≡_}
 use mathlib.Core.Bool.{true}

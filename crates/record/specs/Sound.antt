@@ -4,7 +4,9 @@ use mathlib.Core.List.{List}
 use mathlib.Core.Bool.{Bool, not, _&&_, _||_}
 use lib.Dec.{eqb, ltb, leb}
 use lib.ListN.{getD, take, drop}
-use Rattle.device.specs.Device.{listen, sendData, status, deviceID, accessoryID, autoAddress, unaddress, serviceRequest, addressed, sendingData, sendingStatus, sendingDeviceID, sendingAccessoryID, noService, polled, noAddress, mostID, mostData, has, talks, sending}
+use Rattle.device.specs.Device.{listen, sendData, status, deviceID, accessoryID, autoAddress, unaddress, serviceRequest}
+use Rattle.device.specs.Device.{addressed, sendingData, sendingStatus, sendingDeviceID, sendingAccessoryID, noService}
+use Rattle.device.specs.Device.{polled, noAddress, mostID, mostData, has, talks, sending}
 use Rattle.device.specs.PowerOn.{powerOn}
 use Rattle.device.specs.declared.Device.{Device}
 use Rattle.record.specs.Record.{deviceOf, zeros}
@@ -13,7 +15,8 @@ use Rattle.record.specs.Record.{deviceOf, zeros}
 abbrev pub only : Bool → Bool → Bool
 only a b = not a || b
 
--- those ranges: addresses 0-31, configured and listener 0/1, talker 0-5, service 0-2, NRD seen 0/1, lengths 0-8 and 0-32
+-- those ranges: addresses 0-31, configured and listener 0/1, talker 0-5, service 0-2, NRD seen 0/1, lengths 0-8 and
+-- 0-32
 abbrev pub inRange : Device → Bool
 inRange d =
     leb (d .fixed) noAddress &&

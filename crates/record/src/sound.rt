@@ -4,7 +4,10 @@ ghost use mathlib.Core.Path.{_≡_};
 ghost use lib.ListN.{length, drop};
 ghost use Rattle.device.specs.Device.{talks};
 ghost use Rattle.record.specs.Record.{zeros};
-ghost use Rattle.record.specs.Sound.{inRange, zeroPast, serviceWithStatus, unaddressWithBoth, unconfiguredFixed, configuredAble, listenerAble, serviceAble, sendingAble, addressedAble, dataAble, sentWithin, repliedRight, quietOutside, lastBelow, soundDevice, soundRecord, allowed};
+ghost use Rattle.record.specs.Sound.{inRange, zeroPast, serviceWithStatus, unaddressWithBoth, unconfiguredFixed};
+ghost use Rattle.record.specs.Sound.{configuredAble, listenerAble, serviceAble, sendingAble, addressedAble};
+ghost use Rattle.record.specs.Sound.{dataAble, sentWithin, repliedRight, quietOutside, lastBelow, soundDevice};
+ghost use Rattle.record.specs.Sound.{soundRecord, allowed};
 
 // All bytes from a place on are zero.
 fn zero_from(s: &[u8], from: u8) -> bool

@@ -19,7 +19,8 @@ part b r k n h e =
 returns : tie.Need-returns
 unfolding deviceOf
 returns c =
-    let t = c .before .before .before .before .before .before .before .before .before .before .before .before .before .before in
+    let s = c .before .before .before .before .before .before .before in
+    let t = s .before .before .before .before .before .before .before in
     let e = t .before .before in
     let w = e .before .before in
     let b = w .before .before .args .rec .now in

@@ -12,7 +12,8 @@ use Rattle.record.proofs.word_at.Tie as tie
 low : (c : tie.After-shared-slice-known) → Fits w8 (getD (c .before .args .s .now) (c .before .args .at) 0)
 low c = c .shared-slice-known .given (c .before .args .at)
 
-high : (c : tie.After-shared-slice-known2) → Fits w8 (getD (c .before .before .args .s .now) (c .before .before .args .at + 1) 0)
+high : (c : tie.After-shared-slice-known2) →
+    Fits w8 (getD (c .before .before .args .s .now) (c .before .before .args .at + 1) 0)
 high c = c .shared-slice-known2 .given (c .before .before .args .at + 1)
 
 pub word-at-spec : {M : Type 1} → statement M

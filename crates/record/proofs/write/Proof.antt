@@ -13,9 +13,11 @@ use Rattle.record.proofs.Parts.{written}
 use Rattle.record.proofs.write.Statement.{statement}
 use Rattle.record.proofs.write.Tie as tie
 
-whole : (d : Device) (r : List ℕ) {r₁ r₂ r₃ : List ℕ} → length r ≡ 64 → Put 0 24 (headOf d) r r₁ → Put 24 8 (d .id) r₁ r₂ → Put 32 32 (d .load) r₂ r₃ → r₃ ≡ recordOf d
+whole : (d : Device) (r : List ℕ) {r₁ r₂ r₃ : List ℕ} → length r ≡ 64 → Put 0 24 (headOf d) r r₁ →
+    Put 24 8 (d .id) r₁ r₂ → Put 32 32 (d .load) r₂ r₃ → r₃ ≡ recordOf d
 unfolding recordOf
-whole d r e p q o = written r (headOf d) (d .id) (d .load) e p q o ∙ rw (← bytes-all 8 (d .id) (q .long), ← bytes-all 32 (d .load) (o .long))
+whole d r e p q o = written r (headOf d) (d .id) (d .load) e p q o
+    ∙ rw (← bytes-all 8 (d .id) (q .long), ← bytes-all 32 (d .load) (o .long))
 
 returns : tie.Need-returns
 returns c =

@@ -14,4 +14,5 @@ send-other-spec =
     (λ c κs. search needs)
     (λ c. search needs)
     (λ c κs. search needs)
-    (λ c. rw (← c .before .before .before .other-byte .ensures, ← c .before .before .marked .ensures) (c .sends .ensures)))
+    (λ c. rw (← c .before .before .before .other-byte .ensures, ← c .before .before .marked .ensures)
+    (c .sends .ensures)))

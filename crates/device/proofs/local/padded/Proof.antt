@@ -6,7 +6,8 @@ use Rattle.device.proofs.local.padded.Statement.{statement}
 use Rattle.device.proofs.local.padded.Tie as tie
 
 returns : tie.Need-returns
-returns c = c .before .copy .ensures .1 ∙ padded-is (c .before .before .before .before .args .bytes .now) 32 (search needs)
+returns c = c .before .copy .ensures .1
+    ∙ padded-is (c .before .before .before .before .args .bytes .now) 32 (search needs)
 
 pub padded-spec : {M : Type 1} → statement M
 padded-spec = tie.close (tie.spec (λ c. search needs) (λ c κs. search needs) returns)

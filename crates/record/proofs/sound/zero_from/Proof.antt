@@ -1,4 +1,5 @@
--- `record::sound::zero_from` meets its contract: what is left from i on is all zero just where it was from the start on.
+-- `record::sound::zero_from` meets its contract: what is left from i on is all zero just where it was from the start
+-- on.
 use Prim.Native.Nat.{_-_}
 use mathlib.Core.Path.{_≡_, refl, sym, _∙_}
 use lib.ListN.{length, drop}
@@ -17,7 +18,8 @@ abbrev μ-loop : tie.MeasureT-loop
 returns : tie.Need-returns Inv-loop μ-loop
 returns c =
     let b = c .before .before .before in
-    sym (zeros-off (b .before .args .s .now) (b .loop .i) (c .before .before .loop-test .taken) (c .if1 .taken)) ∙ b .loop .inv
+    sym (zeros-off (b .before .args .s .now) (b .loop .i) (c .before .before .loop-test .taken) (c .if1 .taken))
+    ∙ b .loop .inv
 
 loop-again : tie.Need-loop-again Inv-loop μ-loop
 loop-again c =
@@ -25,7 +27,8 @@ loop-again c =
     zeros-on (b .before .args .s .now) (b .loop .i) (c .before .before .loop-test .taken) (c .if1 .left) ∙ b .loop .inv
 
 returns-2 : tie.Need-returns-2 Inv-loop μ-loop
-returns-2 c = sym (zeros-end (c .before .before .args .s .now) (c .before .loop .i) (c .loop-test .left)) ∙ c .before .loop .inv
+returns-2 c = sym (zeros-end (c .before .before .args .s .now) (c .before .loop .i) (c .loop-test .left))
+    ∙ c .before .loop .inv
 
 pub zero-from-spec : {M : Type 1} → statement M
 zero-from-spec =

@@ -1,0 +1,40 @@
+// The lent area of a loop (01, The lent area): judged in one pass, looked into and changed in the loop's terms.
+pub mod change;
+pub mod judge;
+mod link;
+pub mod lookup;
+
+// Bytes before the first record, of a link and of a set-up item.
+pub const HEADER_SIZE: usize = 8;
+
+pub const LINK_SIZE: usize = 10;
+
+pub const ITEM_SIZE: usize = 12;
+
+// The most frames of a link, and the most devices of a loop.
+pub const DEPTH: usize = 4;
+
+pub const MOST_DEVICES: usize = 15;
+
+// Refusals of an area as such.
+pub const SHAPE: u8 = 1;
+
+pub const UNSOUND: u8 = 2;
+
+// A link's oldest frame.
+pub enum Oldest {
+    Frame(u16),
+    Empty,
+}
+
+// A link's room for one more frame: behind how many it goes.
+pub enum Room {
+    Behind(usize),
+    Full,
+}
+
+// A device's place in the loop.
+pub enum Place {
+    At(usize),
+    NoDevice,
+}
