@@ -1,0 +1,162 @@
+-- A call on a loop is the call of the line of its devices: put, hop, take and the local calls do the same to the same
+-- links and devices, and refuse together; what each answers is what happened.
+use Prim.Native.Nat.{ℕ, zero, suc, _+_, _≤_, _<_}
+use mathlib.Core.Path.{_≡_, refl, sym, ap, _∙_}
+use mathlib.Core.Bool.{Bool, true, false, not, cond, _&&_}
+use mathlib.Core.Option.{Option, none, some, Option·map}
+use mathlib.Core.List.{List, [], _∷_, _++_, tail}
+use native.Mathlib.Omega.{arith}
+use native.Mathlib.Nat.{not-suc-le-zero, le-of-suc-le-suc}
+use lib.ListN.{length, getD, getElem?}
+use lib.Dec.{eqb, ltb, leb}
+use borrow.Author.Tests.{eqb-true, eqb-false, ltb-true, ltb-false, lt-ltb, le-ltb, eq-eqb, ne-eqb}
+use Rattle.frame.specs.Messages.{frames}
+use Rattle.device.specs.Take.{takes}
+use Rattle.device.specs.declared.Device.{Device}
+use Rattle.device.specs.declared.Handed.{Handed}
+use Rattle.device.specs.declared.Handed.the-variants as handed
+use Rattle.device.specs.declared.Called.{Called}
+use Rattle.record.specs.Record.{deviceOf}
+use Rattle.area.specs.Sizes.{depth}
+use Rattle.area.specs.Loop.{Loop, size, device, link}
+use Rattle.area.specs.Lookup.{oldestOf, setDevice, setLink, add, remove}
+use Rattle.area.specs.declared.Oldest.{Oldest}
+use Rattle.pil.specs.Outcome.{Outcome, refuse, done}
+use Rattle.pil.specs.Calls.{noHop, noTake, hopAnswer, hasRoom, sentBy, passed, putIn, takeFrom, takeIn, hopFrom, hopIn}
+use Rattle.pil.specs.Calls.{calledIn, localIn}
+use Rattle.pil.specs.declared.HopAnswer.{HopAnswer}
+use Rattle.pil.specs.declared.TakeAnswer.{TakeAnswer}
+use Rattle.order.specs.Line as line
+use Rattle.order.specs.Flat as flat
+use Rattle.order.specs.Flat.{Flat, linksOf, statesOf, putFlat, hopFrom as hopFromFlat, hopFlat}
+use Rattle.order.specs.Flat.{takeFrom as takeFromFlat, takeFlat, callFrom, callFlat}
+use Rattle.order.specs.History.{listed}
+use Rattle.order.proofs.Flat.{same-flat}
+use Rattle.demands.specs.Histories.{Got, got, if, Local, calledBy, handedOver, acceptedBy, model}
+
+-- a flat line as a loop, and the loop of a line
+abbrev pub loopFlat : Flat model → Loop
+loopFlat x = record { devices = x .states; links = x .links }
+
+abbrev pub toLoop : line.Loop model → Loop
+toLoop l = loopFlat (flat.flat l)
+
+-- an outcome and what the line came to: both refuse, or both leave the same, and what is answered and what happened
+-- agree
+pub data Alike (A B : Type 0) (P : A → B → Type 0) : Outcome A → Option (Flat model × B) → Type 0 where
+  both-refuse : (k : ℕ) → (k ≡ 0 → ⊥) → Alike A B P (refuse k) none
+  both-do : (r : A) (m : Loop) (x : Flat model) (b : B) → m ≡ loopFlat x → P r b → Alike A B P (done r m) (some (x, b))
+
+-- ---- put
+
+abbrev Fine : ℕ → Unit {0} → Type 0
+Fine r b = r ≡ 0
+
+abbrev bare : Option (Flat model) → Option (Flat model × Unit {0})
+bare o = Option·map (λ x. (x, tt)) o
+
+pub put-alike : (f : ℕ) (x : Flat model) → f < frames →
+    Alike ℕ (Unit {0}) Fine (putIn f (loopFlat x)) (bare (putFlat x f))
+unfolding putIn
+put-alike f x h = rw (lt-ltb f frames h) (go (flat.room x 0))
+  where
+    go : (t : Bool) → Alike ℕ (Unit {0}) Fine (cond t (done 0 (add 0 f (loopFlat x))) (refuse 6))
+        (bare (cond t (some (flat.add 0 f x)) none))
+    go true = both-do 0 _ (flat.add 0 f x) tt refl refl
+    go false = both-refuse 6 (λ z. omega arith)
+
+-- ---- take
+
+abbrev Took : TakeAnswer → ℕ → Type 0
+Took r f = (r .refusal ≡ 0) × (r .frame ≡ f)
+
+pub take-alike : (x : Flat model) → Alike TakeAnswer ℕ Took (takeIn (loopFlat x)) (takeFlat x)
+unfolding takeIn
+take-alike x = go (flat.link x (length (x .states))) refl
+  where
+    go : (q : List ℕ) → flat.link x (length (x .states)) ≡ q →
+        Alike TakeAnswer ℕ Took (takeFrom (loopFlat x) (oldestOf q)) (takeFromFlat x q)
+    go [] e = both-refuse 5 (λ z. omega arith)
+    go (f ∷ q) e = both-do _ _ (flat.setLink (length (x .states)) q x) f
+        (ap (λ (g : List ℕ). setLink (length (x .states)) (tail g) (loopFlat x)) e) (refl, refl)
+
+-- ---- a device by its number
+
+there : {A : Type 0} (xs : List A) (i : ℕ) (d : A) → i < length xs → getElem? xs i ≡ some (getD xs i d)
+there [] i d h = absurd (not-suc-le-zero h)
+there (x ∷ xs) zero d h = refl
+there (x ∷ xs) (suc i) d h = there xs i d (le-of-suc-le-suc h)
+
+gone : {A : Type 0} (xs : List A) (i : ℕ) → length xs ≤ i → getElem? xs i ≡ none
+gone [] i h = refl
+gone (x ∷ xs) zero h = absurd (not-suc-le-zero h)
+gone (x ∷ xs) (suc i) h = gone xs i (le-of-suc-le-suc h)
+
+-- ---- hop
+
+-- the byte in a hop's answer
+abbrev pub handedIn : HopAnswer → List Got
+handedIn r = if (eqb (r .handed) 1) (got (r .byte) (r .end))
+
+abbrev Hopped : HopAnswer → Option Got → Type 0
+Hopped r h = (r .refusal ≡ 0) × (handedIn r ≡ listed h)
+
+hop-tells : (f : ℕ) (h : Handed) → Hopped (hopAnswer f h) (handedOver h)
+hop-tells f handed.Nothing = (refl, refl)
+hop-tells f (handed.Byte b e) = (refl, refl)
+
+pub hop-alike : (i : ℕ) (x : Flat model) → Alike HopAnswer (Option Got) Hopped (hopIn i (loopFlat x)) (hopFlat x i)
+unfolding hopIn
+hop-alike i x = go (ltb i (length (x .states))) refl
+  where
+    d : Device
+    d = getD (x .states) i (deviceOf [])
+
+    room : (f : ℕ) (q : List ℕ) → flat.link x i ≡ f ∷ q → (t : Bool) → Alike HopAnswer (Option Got) Hopped
+        (cond t (done (hopAnswer (sentBy i f (loopFlat x) .frame) (sentBy i f (loopFlat x) .handed))
+        (passed i f (loopFlat x))) (refuse 6))
+        (cond t (some (
+          flat.add (suc i) (takes d f .frame) (flat.setLink i q (flat.setState i (takes d f .device) x)),
+          handedOver (takes d f .handed),
+        )) none)
+    room f q e true =
+        both-do _ _ _ _
+        (ap (λ (g : List ℕ). add (suc i) (takes d f .frame)
+        (setLink i (tail g) (setDevice i (takes d f .device) (loopFlat x)))) e)
+        (hop-tells (takes d f .frame) (takes d f .handed))
+    room f q e false = both-refuse 6 (λ z. omega arith)
+
+    from : (q : List ℕ) → flat.link x i ≡ q →
+        Alike HopAnswer (Option Got) Hopped (hopFrom i (loopFlat x) (oldestOf q)) (hopFromFlat x i (some d) q)
+    from [] e = both-refuse 5 (λ z. omega arith)
+    from (f ∷ q) e = room f q e (flat.room x (suc i))
+
+    go : (t : Bool) → ltb i (length (x .states)) ≡ t →
+        Alike HopAnswer (Option Got) Hopped (cond t (hopFrom i (loopFlat x) (oldestOf (flat.link x i))) (refuse 3))
+        (hopFlat x i)
+    go true e = rw (there (x .states) i (deviceOf []) (ltb-true _ _ e)) (from (flat.link x i) refl)
+    go false e = rw (gone (x .states) i (ltb-false _ _ e)) (both-refuse 3 (λ z. omega arith))
+
+-- ---- local calls
+
+called-alike : (i : ℕ) (x : Flat model) (c : Called) →
+    Alike ℕ (Unit {0}) Fine (calledIn i (loopFlat x) c) (bare (Option·map (λ s. flat.setState i s x) (acceptedBy c)))
+called-alike i x c = go (eqb (c .refusal) 0) refl
+  where
+    go : (t : Bool) → eqb (c .refusal) 0 ≡ t →
+        Alike ℕ (Unit {0}) Fine (cond t (done 0 (setDevice i (c .device) (loopFlat x))) (refuse (c .refusal)))
+        (bare (Option·map (λ s. flat.setState i s x) (cond t (some (c .device)) none)))
+    go true e = both-do 0 _ (flat.setState i (c .device) x) tt refl refl
+    go false e = both-refuse (c .refusal) (eqb-false (c .refusal) 0 e)
+
+pub local-alike : (c : Local) (i : ℕ) (x : Flat model) →
+    Alike ℕ (Unit {0}) Fine (localIn (calledBy c) i (loopFlat x)) (bare (callFlat x i c))
+unfolding localIn
+local-alike c i x = go (ltb i (length (x .states))) refl
+  where
+    go : (t : Bool) → ltb i (length (x .states)) ≡ t →
+        Alike ℕ (Unit {0}) Fine (cond t (calledIn i (loopFlat x) (calledBy c (device (loopFlat x) i))) (refuse 3))
+        (bare (callFlat x i c))
+    go true e = rw (there (x .states) i (deviceOf []) (ltb-true _ _ e))
+        (called-alike i x (calledBy c (getD (x .states) i (deviceOf []))))
+    go false e = rw (gone (x .states) i (ltb-false _ _ e)) (both-refuse 3 (λ z. omega arith))

@@ -1,0 +1,142 @@
+-- The drain on a loop is the drain of its line: the same device hops at each turn, and both stop for the same reason.
+use Prim.Native.Nat.{ℕ, zero, suc, _+_}
+use mathlib.Core.Path.{_≡_, refl, sym, ap, _∙_}
+use mathlib.Core.Bool.{Bool, true, false, cond, _&&_}
+use mathlib.Core.Option.{Option, none, some, Option·map}
+use mathlib.Core.List.{List, [], _∷_}
+use native.Mathlib.Omega.{arith}
+use lib.ListN.{length, getD}
+use lib.Dec.{eqb, ltb}
+use Rattle.area.specs.Loop.{Loop, size, link}
+use Rattle.area.specs.Lookup.{oldestOf}
+use Rattle.area.specs.declared.Oldest.{Oldest}
+use Rattle.area.specs.declared.Place.{Place}
+use Rattle.pil.specs.Outcome.{Outcome, refuse, done}
+use Rattle.pil.specs.Calls.{hopIn}
+use Rattle.pil.specs.Drain.{noHopLeft, budgetSpent, byteHanded, canFrom, canHop, highest, stopped, handedTo, turned}
+use Rattle.pil.specs.Drain.{onPlace, drainFrom}
+use Rattle.pil.specs.declared.HopAnswer.{HopAnswer}
+use Rattle.pil.specs.declared.DrainAnswer.{DrainAnswer}
+use Rattle.order.specs.Line as line
+use Rattle.order.specs.Flat as flat
+use Rattle.order.specs.Flat.{Flat, hopFlat}
+use Rattle.order.specs.History.{hopsMade, listed}
+use Rattle.order.proofs.Drain.{greatest-passes}
+use Rattle.order.proofs.Flat.{same-flat}
+use Rattle.demands.specs.Histories.{Got, got, if, model}
+use Rattle.demands.proofs.Bridge.{loopFlat, toLoop, Alike, both-refuse, both-do, handedIn, hop-alike}
+
+-- ---- who hops
+
+can-alike : (x : Flat model) (i : ℕ) → canHop i (loopFlat x) ≡ flat.canFlat x i
+unfolding canHop
+can-alike x i = go (flat.link x i)
+  where
+    go : (q : List ℕ) → canFrom i (loopFlat x) (oldestOf q) ≡ (flat.holds q && flat.room x (suc i))
+    go [] = refl
+    go (f ∷ q) = refl
+
+-- a device's number, or none, as a place
+abbrev place : Option ℕ → Place
+place none = Place.NoDevice
+place (some i) = Place.At i
+
+highest-up-to : (x : Flat model) (k : ℕ) → highest k (loopFlat x) ≡ place (line.greatest (flat.canFlat x) k)
+unfolding highest
+highest-up-to x zero = refl
+highest-up-to x (suc k) = rw (can-alike x k) (go (flat.canFlat x k) (highest-up-to x k))
+  where
+    go : (t : Bool) → highest k (loopFlat x) ≡ place (line.greatest (flat.canFlat x) k) →
+        cond t (Place.At k) (highest k (loopFlat x)) ≡ place (cond t (some k) (line.greatest (flat.canFlat x) k))
+    go true e = refl
+    go false e = e
+
+highest-alike : (l : line.Loop model) → highest (size (toLoop l)) (toLoop l) ≡ place (line.highest l)
+highest-alike l = highest-up-to (flat.flat l) (size (toLoop l)) ∙ ap place (same-flat model .same-highest l)
+
+-- ---- the answer, by the hops made and the reason
+
+abbrev pub drainAnswer : ℕ → line.Stop model → DrainAnswer
+drainAnswer h line.no-hop = record { hops = h; refusal = 0; reason = 0; device = 0; byte = 0; end = 0 }
+drainAnswer h line.spent = record { hops = h; refusal = 0; reason = 1; device = 0; byte = 0; end = 0 }
+drainAnswer h (line.handing i x) =
+    record { hops = h; refusal = 0; reason = 2; device = i; byte = x .byte; end = x .end }
+
+abbrev Drains : ℕ → Outcome DrainAnswer → line.Drained model → Type 0
+Drains h o d = o ≡ done (drainAnswer (h + hopsMade (d .events)) (d .stop)) (toLoop (d .loop))
+
+-- after one more hop
+one-more : (h i : ℕ) (b : Option Got) (o : Outcome DrainAnswer) (d : line.Drained model) → Drains (suc h) o d →
+    Drains h o (line.hopBefore i b d)
+one-more h i b o d e =
+    let z : suc h + hopsMade (d .events) ≡ h + (1 + hopsMade (d .events)) = omega arith in
+    e ∙ ap (λ (n : ℕ). done (drainAnswer n (d .stop)) (toLoop (d .loop))) z
+
+-- a hop that handed a byte, and one that did not
+handed-one : (r : HopAnswer) (x : Got) → handedIn r ≡ x ∷ [] → (eqb (r .handed) 1 ≡ true) × (got (r .byte) (r .end) ≡ x)
+handed-one r x e = go (eqb (r .handed) 1) e
+  where
+    go : (t : Bool) → if t (got (r .byte) (r .end)) ≡ x ∷ [] → (t ≡ true) × (got (r .byte) (r .end) ≡ x)
+    go true q = (refl, cc)
+    go false q = let z : _≡_ {A = ℕ} 0 1 = cc in absurd (omega arith)
+
+handed-none : (r : HopAnswer) → handedIn r ≡ [] → eqb (r .handed) 1 ≡ false
+handed-none r e = go (eqb (r .handed) 1) e
+  where
+    go : (t : Bool) → if t (got (r .byte) (r .end)) ≡ [] → t ≡ false
+    go true q = let z : _≡_ {A = ℕ} 0 1 = cc in absurd (omega arith)
+    go false q = refl
+
+-- one turn: device i hops, and then the rest is as the line's
+module _ (h i : ℕ) (next : Loop → Outcome DrainAnswer) (goOn : line.Loop model → line.Drained model)
+    (rest : (m : line.Loop model) → Drains (suc h) (next (toLoop m)) (goOn m)) where
+  byte-told : (m : line.Loop model) (r : HopAnswer) (b : Option Got) → handedIn r ≡ listed b →
+      Drains h (cond (eqb (r .handed) 1) (handedTo i (suc h) r (toLoop m)) (next (toLoop m))) (line.afterHop i goOn m b)
+  byte-told m r none e = rw (handed-none r e) (one-more h i none _ (goOn m) (rest m))
+  byte-told m r (some x) e =
+      let p = handed-one r x e in
+      rw (p .0) (one-more h i (some x) _ (line.stopped m (line.handing i x))
+      (told (r .byte) (r .end) x (p .1)))
+    where
+      told : (b f : ℕ) (x : Got) → got b f ≡ x →
+          done (record { hops = suc h; refusal = 0; reason = 2; device = i; byte = b; end = f }) (toLoop m)
+          ≡ done (drainAnswer (suc h + 0) (line.handing i x)) (toLoop m)
+      told b f x q =
+          let z : suc h ≡ suc h + 0 = omega arith in
+          ap (λ (n : ℕ). done (drainAnswer n (line.handing i (got b f))) (toLoop m)) z
+          ∙ ap (λ (y : Got). done (drainAnswer (suc h + 0) (line.handing i y)) (toLoop m)) q
+
+  hop-turned : (l : line.Loop model) (o : Outcome HopAnswer) (p : Option (line.Loop model × Option Got)) →
+      Alike HopAnswer (Option Got) (λ r b. (r .refusal ≡ 0) × (handedIn r ≡ listed b)) o
+      (Option·map (λ q. (flat.flat (q .0), q .1)) p) →
+      line.accepts p ≡ true → Drains h (turned i (suc h) next (toLoop l) o) (line.hopOn i goOn l p)
+  hop-turned l o none u a = let z : false ≡ true = a in let y : _≡_ {A = ℕ} 0 1 = cc in absurd (omega arith)
+  hop-turned l o (some q) (both-do r m x b e t) a = rw e (byte-told (q .0) r (q .1) (t .1))
+
+pub drained-alike : (b h : ℕ) (l : line.Loop model) → Drains h (drainFrom b h (toLoop l)) (line.draining b l)
+unfolding drainFrom
+drained-alike zero h l = rw (highest-alike l) (go (line.highest l))
+  where
+    z : h ≡ h + 0
+    z = omega arith
+
+    go : (o : Option ℕ) →
+        Drains h (onPlace (stopped noHopLeft h (toLoop l)) (λ i. stopped budgetSpent h (toLoop l)) (place o))
+        (elim o [ none ↦ line.stopped l line.no-hop | some i ↦ line.stopped l line.spent ])
+    go none = ap (λ (n : ℕ). done (drainAnswer n line.no-hop) (toLoop l)) z
+    go (some i) = ap (λ (n : ℕ). done (drainAnswer n line.spent) (toLoop l)) z
+drained-alike (suc b) h l = rw (highest-alike l) (go (line.highest l) refl (λ m. drained-alike b (suc h) m))
+  where
+    z : h ≡ h + 0
+    z = omega arith
+
+    go : (o : Option ℕ) → line.highest l ≡ o →
+        ((m : line.Loop model) → Drains (suc h) (drainFrom b (suc h) (toLoop m)) (line.draining b m)) →
+        Drains h (onPlace (stopped noHopLeft h (toLoop l))
+        (λ i. turned i (suc h) (drainFrom b (suc h)) (toLoop l) (hopIn i (toLoop l))) (place o))
+        (elim o [ none ↦ line.stopped l line.no-hop | some i ↦ line.hopOn i (line.draining b) l (line.hopAt l i) ])
+    go none e rest = ap (λ (n : ℕ). done (drainAnswer n line.no-hop) (toLoop l)) z
+    go (some i) e rest =
+        hop-turned h i (drainFrom b (suc h)) (line.draining b) rest l (hopIn i (toLoop l)) (line.hopAt l i)
+        (rw (same-flat model .same-hop l i) at (hop-alike i (flat.flat l)))
+        (greatest-passes (line.canHop l) (line.devices l) i e)

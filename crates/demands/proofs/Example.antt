@@ -1,0 +1,35 @@
+-- The worked example: both histories are computed on the bytes.
+use mathlib.Core.Path.{_≡_, refl}
+use Rattle.frame.specs.Messages.{messages, kindAt, lookup, within, firstIn, firstOf}
+use Rattle.device.specs.Choose.{choose}
+use Rattle.device.specs.PowerOn.{powerOn, bytesFrom}
+use Rattle.device.specs.Commands.{lad, tad, aau}
+use Rattle.device.specs.Reply.{marked}
+use Rattle.device.specs.Ready.{requested, polls, sst, nrd, aad}
+use Rattle.device.specs.Data.{returned, heard, dataOrEnd}
+use Rattle.device.specs.Take.{takes}
+use Rattle.device.specs.Local.{loads}
+use Rattle.record.specs.Record.{deviceOf, recordOf, zeros}
+use Rattle.record.specs.Sound.{soundDevice, soundRecord, allowed}
+use Rattle.area.specs.Parts.{parts, join, all}
+use Rattle.area.specs.Link.{framesOf, linkOf, soundSlot, soundLink}
+use Rattle.area.specs.Loop.{loopOf, areaOf, shaped, sound, judgeOf}
+use Rattle.pil.specs.Outcome.{callOf}
+use Rattle.pil.specs.Calls.{putIn, takeIn, hopIn, localIn}
+use Rattle.pil.specs.SetUp.{itemsFit, setUpOf}
+use Rattle.demands.specs.Example.{Example}
+
+pub example : Example
+unfolding messages kindAt lookup within firstIn firstOf choose powerOn bytesFrom lad tad aau marked requested polls sst
+    nrd aad returned heard dataOrEnd takes loads deviceOf recordOf zeros soundDevice soundRecord allowed parts join all
+    framesOf linkOf soundSlot soundLink loopOf areaOf shaped sound judgeOf callOf putIn takeIn hopIn localIn itemsFit
+    setUpOf
+example =
+    record {
+      in-turn = refl;
+      none-refused = refl;
+      same-area = refl;
+      mixed-taken = refl;
+      round-taken = refl;
+      hops = refl;
+    }

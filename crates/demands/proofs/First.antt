@@ -1,0 +1,242 @@
+-- Demand 1, call by call: the tests of a call are the conditions of the table that concern it.
+use Prim.Native.Nat.{ℕ, zero, suc, _+_, _*_, _≤_}
+use mathlib.Core.Path.{_≡_, refl, sym, ap, _∙_}
+use mathlib.Core.Bool.{Bool, true, false, not, cond, _&&_, _||_}
+use mathlib.Core.List.{List, [], _∷_}
+use native.Mathlib.Omega.{arith}
+use lib.ListN.{length}
+use lib.Dec.{eqb, ltb, leb}
+use borrow.Author.Tests.{eqb-true, eqb-false, ltb-true, ltb-false, leb-true, le-leb, lt-leb, eq-eqb, ne-eqb}
+use Rattle.frame.specs.Messages.{frames, kindAt, codesOf, firstOf}
+use Rattle.frame.specs.Coding.{decoding, decodeOf, encoding, encodeOf}
+use Rattle.device.specs.Local.{loads, setsStatus, wishes}
+use Rattle.record.specs.Sound.{allowed}
+use Rattle.area.specs.Sizes.{areaSize, mostDevices, itemSize}
+use Rattle.area.specs.Parts.{parts, all}
+use Rattle.area.specs.Loop.{countIn, loopOf, areaOf, shaped, sound, device, link}
+use Rattle.pil.specs.Outcome.{After, after}
+use Rattle.pil.specs.Calls.{noTake, noHop, refusal, putIn, takeIn, hopIn, localIn}
+use Rattle.pil.specs.Drain.{noDrain, drainIn}
+use Rattle.pil.specs.SetUp.{devicesFor, itemsFit, poweredOn, setUpOf}
+use Rattle.demands.specs.Calls.{Byte, numbers, Action, put, hop, take, load, status, wish, drain, Call, does}
+use Rattle.demands.specs.Calls.{setUp, decode, encode, Answer, plain, hopped, taken, drained, decoded, encoded}
+use Rattle.demands.specs.Calls.{pil, refusalIn, bare, bareAction, acts}
+use Rattle.demands.specs.Conditions.{devicesAt, lowest}
+use Rattle.demands.specs.Demands.{Refuses, Demand1}
+use Rattle.demands.proofs.Lengths.{Found, found-at, at-is, shape-is, for-is}
+use Rattle.demands.proofs.Refusals.{Met, call-met, turned-lt}
+use Rattle.demands.proofs.Tests.{size-is, put-told, take-told, hop-told, local-told, load-refusal}
+use Rattle.demands.proofs.Tests.{status-refusal, wish-refusal, drain-told}
+
+-- a call held to a refusal, as demand 1 has it
+record Held (c : Call) (a : List ℕ) (o : After Answer) (k : ℕ) : Type 0 where
+  refused : refusalIn (o .answer) ≡ k
+  unchanged : (k ≡ 0 → ⊥) → (o .answer ≡ bare c k) × (o .area ≡ a)
+
+-- the first two rows of the table are the judgement of the area, and the others what the call tells of the loop
+module _ (a : List ℕ) where
+  rows : ℕ → ℕ
+  rows k = cond (eqb (devicesAt (length a)) 0 || not (eqb (length a) (areaSize (countIn a)))) 1
+      (cond (not (sound a)) 2 k)
+
+  held : (c : Action) (k : ℕ) → Held (does c) a (acts c a) (cond (not (shaped a)) 1 (cond (not (sound a)) 2 k)) →
+      Held (does c) a (acts c a) (rows k)
+  unfolding rows
+  held c k h = rw (shape-is a) h
+
+  plainly : (k : ℕ) {o : After ℕ} → Met refusal refusal a o k →
+      (refusalIn (plain (o .answer)) ≡ k) × ((k ≡ 0 → ⊥) → (plain (o .answer) ≡ plain k) × (o .area ≡ a))
+  plainly k m = (m .refusal, λ z. (ap plain (m .refused z .0), m .refused z .1))
+
+  put-held : (f : ℕ) → Held (does (put f)) a (pil (does (put f)) a) (lowest (does (put f)) a)
+  unfolding rows
+  put-held f =
+      let m = call-met refusal refusal (λ k. refl) a (putIn f) _ (put-told f (loopOf a)) in
+      let p = plainly _ m in held (put f) _ (record { refused = p .0; unchanged = p .1 })
+
+  take-held : Held (does take) a (pil (does take) a) (lowest (does take) a)
+  unfolding rows
+  take-held =
+      let t = rw (size-is a) at (take-told (loopOf a)) in
+      let m = call-met _ noTake (λ k. refl) a takeIn _ t in
+      held take _ (record { refused = m .refusal; unchanged = λ z. (ap taken (m .refused z .0), m .refused z .1) })
+
+  hop-held : (i : ℕ) → Held (does (hop i)) a (pil (does (hop i)) a) (lowest (does (hop i)) a)
+  unfolding rows
+  hop-held i =
+      let t = rw (size-is a) at (hop-told i (loopOf a)) in
+      let m = call-met _ noHop (λ k. refl) a (hopIn i) _ t in
+      held (hop i) _ (record { refused = m .refusal; unchanged = λ z. (ap hopped (m .refused z .0), m .refused z .1) })
+
+  load-held : (i : ℕ) (bs : List Byte) →
+      Held (does (load i bs)) a (pil (does (load i bs)) a) (lowest (does (load i bs)) a)
+  unfolding rows
+  load-held i bs =
+      let t = rw (size-is a, load-refusal (device (loopOf a) i) (numbers bs)) at
+      (local-told (λ d. loads d (numbers bs)) i (loopOf a)) in
+      let m = call-met refusal refusal (λ k. refl) a (localIn (λ d. loads d (numbers bs)) i) _ t in
+      let p = plainly _ m in held (load i bs) _ (record { refused = p .0; unchanged = p .1 })
+
+  status-held : (i : ℕ) (s : Byte) →
+      Held (does (status i s)) a (pil (does (status i s)) a) (lowest (does (status i s)) a)
+  unfolding rows
+  status-held i s =
+      let t = rw (size-is a, status-refusal (device (loopOf a) i) (s .value)) at
+      (local-told (λ d. setsStatus d (s .value)) i (loopOf a)) in
+      let m = call-met refusal refusal (λ k. refl) a (localIn (λ d. setsStatus d (s .value)) i) _ t in
+      let p = plainly _ m in held (status i s) _ (record { refused = p .0; unchanged = p .1 })
+
+  wish-held : (i w : ℕ) → Held (does (wish i w)) a (pil (does (wish i w)) a) (lowest (does (wish i w)) a)
+  unfolding rows
+  wish-held i w =
+      let t = rw (size-is a, wish-refusal (device (loopOf a) i) w) at (local-told (λ d. wishes d w) i (loopOf a)) in
+      let m = call-met refusal refusal (λ k. refl) a (localIn (λ d. wishes d w) i) _ t in
+      let p = plainly _ m in held (wish i w) _ (record { refused = p .0; unchanged = p .1 })
+
+  drain-held : (b : ℕ) → Held (does (drain b)) a (pil (does (drain b)) a) (lowest (does (drain b)) a)
+  unfolding rows
+  drain-held b =
+      let m = call-met _ noDrain (λ k. refl) a (drainIn b) _ (drain-told b 0 (loopOf a)) in
+      held (drain b) _ (record {
+        refused = m .refusal;
+        unchanged = λ z.
+            (ap drained (m .refused z .0), m .refused z .1);
+      })
+
+  action-held : (c : Action) → Held (does c) a (pil (does c) a) (lowest (does c) a)
+  action-held (put f) = put-held f
+  action-held (hop i) = hop-held i
+  action-held take = take-held
+  action-held (load i bs) = load-held i bs
+  action-held (status i s) = status-held i s
+  action-held (wish i w) = wish-held i w
+  action-held (drain b) = drain-held b
+
+-- ---- set up: the n of the area's length, found by a division
+
+module _ (a : List ℕ) (bytes : List Byte) where
+  items : List ℕ
+  items = numbers bytes
+
+  D : ℕ
+  D = devicesAt (length a)
+
+  -- no number of devices has this length
+  unfit : D ≡ 0 → (n : ℕ) → itemsFit n a items ≡ false
+  unfolding D itemsFit
+  unfit z n = go (leb 1 n) (leb n mostDevices) (eqb (length a) (areaSize n)) refl refl refl
+    where
+      go : (p q r : Bool) → leb 1 n ≡ p → leb n mostDevices ≡ q → eqb (length a) (areaSize n) ≡ r →
+          (p && (q && (r && eqb (length items) (itemSize * n)))) ≡ false
+      go true true true e f g =
+          let w : length a ≡ areaSize n = eqb-true _ _ g in
+          let d : devicesAt (length a) ≡ n = ap devicesAt w ∙ at-is n (leb-true _ _ e) (leb-true _ _ f) in
+          absurd (omega (arith, leb-true 1 n e))
+      go true true false e f g = refl
+      go true false r e f g = refl
+      go false q r e f g = refl
+
+  fit : (D ≡ 0 → ⊥) → itemsFit D a items ≡ eqb (length items) (itemSize * D)
+  unfolding D itemsFit
+  fit h = let f = found-at (length a) h in rw (le-leb _ _ (f .some), le-leb _ _ (f .few), eq-eqb _ _ (f .long))
+
+  -- what set up does, by the tests that it makes
+  abbrev sets : ℕ → Bool → Bool → After ℕ
+  sets n s t = cond s (cond t (after 0 (areaOf (poweredOn n items))) (after 2 a)) (after 1 a)
+
+  Right : After ℕ → ℕ → Type 0
+  Right o k = (o .answer ≡ k) × ((k ≡ 0 → ⊥) → (o .area ≡ a))
+
+  right : (n : ℕ) (s t : Bool) → Right (sets n s t) (cond (not s) 1 (cond (not t) 2 0))
+  unfolding Right
+  right n true true = (refl, λ z. absurd (z refl))
+  right n true false = (refl, λ z. refl)
+  right n false t = (refl, λ z. refl)
+
+  set-up-right : Right (setUpOf a items) (lowest (setUp bytes) a)
+  unfolding setUpOf Right D items
+  set-up-right = go (eqb (devicesAt (length a)) 0) refl
+    where
+      go : (z : Bool) → eqb (devicesAt (length a)) 0 ≡ z →
+          Right (sets (devicesFor (length a)) (itemsFit (devicesFor (length a)) a items)
+          (all allowed (parts itemSize (devicesFor (length a)) items)))
+          (cond (z || not (eqb (length items) (itemSize * devicesAt (length a)))) 1
+          (cond (not (all allowed (parts itemSize (devicesAt (length a)) items))) 2 0))
+      go true e = rw (unfit (eqb-true _ _ e) (devicesFor (length a))) (refl, λ z. refl)
+      go false e =
+          let h = eqb-false (devicesAt (length a)) 0 e in
+          rw (for-is (length a) h, fit h)
+          (right (devicesAt (length a)) (eqb (length items) (itemSize * devicesAt (length a)))
+          (all allowed (parts itemSize (devicesAt (length a)) items)))
+
+  set-up-held : Held (setUp bytes) a (pil (setUp bytes) a) (lowest (setUp bytes) a)
+  unfolding Right items
+  set-up-held = let r = set-up-right in record { refused = r .0; unchanged = λ z. (ap plain (r .0), r .1 z) }
+
+-- ---- decoder and encoder
+
+decode-held : (f : ℕ) (a : List ℕ) → Held (decode f) a (pil (decode f) a) (lowest (decode f) a)
+unfolding decodeOf
+decode-held f a = rw (turned-lt f frames 4 0) (go (ltb f frames))
+  where
+    go : (t : Bool) → Held (decode f) a
+        (after (decoded (record {
+          refusal = (cond t (decoding 0 (kindAt f)) (decoding 4 0)) .refusal;
+          kind =
+              (cond t (decoding 0 (kindAt f)) (decoding 4 0)) .kind;
+        })) a) (cond t 0 4)
+    go true = record { refused = refl; unchanged = λ z. absurd (z refl) }
+    go false = record { refused = refl; unchanged = λ z. (refl, refl) }
+
+encode-held : (k o : ℕ) (a : List ℕ) → Held (encode k o) a (pil (encode k o) a) (lowest (encode k o) a)
+unfolding encodeOf
+encode-held k o a = rw (turned-lt o (codesOf k) 4 0) (go (ltb o (codesOf k)))
+  where
+    go : (t : Bool) → Held (encode k o) a
+        (after (encoded (record {
+          frame = (cond t (encoding 0 (firstOf k + o)) (encoding 4 0)) .frame;
+          refusal =
+              (cond t (encoding 0 (firstOf k + o)) (encoding 4 0)) .refusal;
+        })) a) (cond t 0 4)
+    go true = record { refused = refl; unchanged = λ z. absurd (z refl) }
+    go false = record { refused = refl; unchanged = λ z. (refl, refl) }
+
+call-held : (c : Call) (a : List ℕ) → Held c a (pil c a) (lowest c a)
+call-held (does c) a = action-held a c
+call-held (setUp items) a = set-up-held a items
+call-held (decode f) a = decode-held f a
+call-held (encode k o) a = encode-held k o a
+
+pub demand-1 : Demand1
+demand-1 = record { by-table = λ c a. call-held c a .refused; changes-nothing = λ c a. call-held c a .unchanged }
+
+-- ---- a set-up that is not refused
+
+pub record SetsUp (a : List ℕ) (bytes : List Byte) (n : ℕ) : Type 0 where
+  pub fits : itemsFit n a (numbers bytes) ≡ true
+  pub allows : all allowed (parts itemSize n (numbers bytes)) ≡ true
+  pub leaves : pil (setUp bytes) a .area ≡ areaOf (poweredOn n (numbers bytes))
+
+pub sets-up : (a : List ℕ) (bytes : List Byte) → lowest (setUp bytes) a ≡ 0 → SetsUp a bytes (devicesAt (length a))
+unfolding setUpOf D items
+sets-up a bytes z = go (eqb (devicesAt (length a)) 0) refl z
+  where
+    rest : (h : devicesAt (length a) ≡ 0 → ⊥) (s t : Bool) →
+        eqb (length (numbers bytes)) (itemSize * devicesAt (length a)) ≡ s →
+        all allowed (parts itemSize (devicesAt (length a)) (numbers bytes)) ≡ t →
+        _≡_ {A = ℕ} (cond (not s) 1 (cond (not t) 2 0)) 0 → SetsUp a bytes (devicesAt (length a))
+    rest h true true e f q =
+        record {
+          fits = fit a bytes h ∙ e;
+          allows = f;
+          leaves = rw (for-is (length a) h, fit a bytes h, e, f);
+        }
+    rest h true false e f q = absurd (omega arith)
+    rest h false t e f q = absurd (omega arith)
+
+    go : (b : Bool) → eqb (devicesAt (length a)) 0 ≡ b →
+        _≡_ {A = ℕ} (cond (b || not (eqb (length (numbers bytes)) (itemSize * devicesAt (length a)))) 1
+        (cond (not (all allowed (parts itemSize (devicesAt (length a)) (numbers bytes)))) 2 0)) 0 →
+        SetsUp a bytes (devicesAt (length a))
+    go true e q = absurd (omega arith)
+    go false e q = rest (eqb-false (devicesAt (length a)) 0 e) _ _ refl refl q

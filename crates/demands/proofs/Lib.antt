@@ -1,0 +1,13 @@
+-- Why the demands hold. Lengths and Refusals are for demand 1.
+pub mod Lengths
+pub mod Refusals
+pub mod Tests
+pub mod First
+pub mod Bridge
+pub mod Drains
+pub mod Settled
+pub mod Second
+pub mod Rendered
+pub mod Third
+pub mod Teeth
+pub mod Example

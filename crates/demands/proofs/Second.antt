@@ -1,0 +1,126 @@
+-- Demand 2: a hop leaves the area of the loop that it leaves, and that area differs from the old one in one record and
+-- two links.
+use Prim.Native.Nat.{ℕ, suc, _+_, _<_}
+use mathlib.Core.Path.{_≡_, refl, sym, ap, _∙_}
+use mathlib.Core.List.{List, [], _∷_, _++_, tail}
+use native.Mathlib.Omega.{arith}
+use lib.Dec.{ltb}
+use lib.ListN.{length, take, drop, getD, set, length-set}
+use lib.Seq.{drop-drop, getD-set-other}
+use borrow.Author.Tests.{lt-ltb}
+use Rattle.frame.proofs.Rows.{in-order}
+use Rattle.frame.proofs.Laws.{encode-decode, decode-encode, table-is-decoder}
+use Rattle.device.specs.Take.{takes}
+use Rattle.device.specs.declared.Device.{Device}
+use Rattle.record.specs.Record.{recordSize, recordOf}
+use Rattle.record.specs.Fits.{Bytes}
+use Rattle.record.proofs.Laws.{record-wide}
+use Rattle.area.specs.Sizes.{depth, linkSize, recordAt, linkAt}
+use Rattle.area.specs.Link.{linkOf}
+use Rattle.area.specs.Loop.{Loop, countIn, size, loopOf, areaOf, judgeOf, device, link}
+use Rattle.area.specs.Lookup.{oldestOf, setDevice, setLink, add, remove}
+use Rattle.area.proofs.Parts.{splice}
+use Rattle.area.proofs.Links.{link-wide}
+use Rattle.area.proofs.Areas.{device-put, link-put}
+use Rattle.area.proofs.Laws.{area-back, loop-sound}
+use Rattle.pil.specs.Outcome.{done, After, after, callOf}
+use Rattle.pil.specs.Calls.{noHop, hopAnswer, sentBy, passed, hopFrom, hopIn, hopOf}
+use Rattle.pil.specs.declared.HopAnswer.{HopAnswer}
+use Rattle.demands.specs.Calls.{hopped, acts}
+use Rattle.demands.specs.Demands.{with, recordTaken, linkLess, hopLeaves, Obeys, Demand2}
+use Rattle.demands.proofs.Tests.{size-is}
+
+-- new bytes of a width, from a place on
+spliced : (at w : ℕ) (new a : List ℕ) → length new ≡ w → with at new a ≡ splice at w new a
+spliced at w new a e = rw (e, drop-drop w at a)
+
+module _ (i f : ℕ) (fs a : List ℕ) (small : Bytes a) (ok : judgeOf a ≡ 0) (here : i < countIn a)
+    (first : link (loopOf a) i ≡ f ∷ fs)
+    (room : length (link (loopOf a) (suc i)) < depth) where
+  l : Loop
+  l = loopOf a
+
+  -- the hop is done
+  hop-in : hopIn i (loopOf a) ≡ done (hopAnswer (sentBy i f (loopOf a) .frame) (sentBy i f (loopOf a) .handed))
+      (passed i f (loopOf a))
+  unfolding hopIn
+  hop-in =
+      rw (lt-ltb i (size (loopOf a)) (rw (size-is a) here))
+      (ap (λ (q : List ℕ). hopFrom i (loopOf a) (oldestOf q)) first
+      ∙ rw (lt-ltb (length (link (loopOf a) (suc i))) depth room))
+
+  hop-is : hopOf a i ≡ after (hopAnswer (sentBy i f (loopOf a) .frame) (sentBy i f (loopOf a) .handed))
+      (areaOf (passed i f (loopOf a)))
+  unfolding callOf
+  hop-is = rw (ok, hop-in)
+
+  -- its area, one change after the other
+  n : ℕ
+  n = size (loopOf a)
+
+  d : Device
+  d = takes (device (loopOf a) i) f .device
+
+  l₁ : Loop
+  l₁ = setDevice i (takes (device (loopOf a) i) f .device) (loopOf a)
+
+  l₂ : Loop
+  l₂ = setLink i (tail (link (loopOf a) i)) (setDevice i (takes (device (loopOf a) i) f .device) (loopOf a))
+
+  links-long : length (loopOf a .links) ≡ suc (size (loopOf a))
+  links-long = loop-sound a small ok .ends
+
+  in-range : i < size (loopOf a)
+  in-range = rw (size-is a) here
+
+  area-1 : areaOf l₁ ≡ recordTaken i f a
+  unfolding l₁
+  area-1 =
+      let x = takes (device (loopOf a) i) f .device in
+      sym (device-put (loopOf a) i x in-range)
+      ∙ ap (λ (b : List ℕ). splice (recordAt i) recordSize (recordOf x) b) (area-back a small ok)
+      ∙ sym (spliced (recordAt i) recordSize (recordOf x) a (record-wide x))
+
+  area-2 : areaOf l₂ ≡ linkLess i f a
+  unfolding l₁ l₂
+  area-2 =
+      let q = tail (link (loopOf a) i) in
+      let same : size l₁ ≡ countIn a = length-set (loopOf a .devices) i (takes (device (loopOf a) i) f .device)
+      ∙ size-is a in
+      sym (link-put l₁ i q (omega (arith, links-long, in-range)))
+      ∙ rw (same, area-1) (sym (spliced (linkAt (countIn a) i) linkSize (linkOf q) (recordTaken i f a) (link-wide q)))
+
+  next-link : link l₂ (suc i) ≡ link (loopOf a) (suc i)
+  unfolding l₂
+  next-link = getD-set-other (loopOf a .links) i (suc i) (tail (link (loopOf a) i)) [] (λ e. omega arith)
+
+  area-3 : areaOf (passed i f (loopOf a)) ≡ hopLeaves i f a
+  unfolding l₁ l₂
+  area-3 =
+      let q = link (loopOf a) (suc i) ++ (takes (device (loopOf a) i) f .frame ∷ []) in
+      let same : size l₂ ≡ countIn a = length-set (loopOf a .devices) i (takes (device (loopOf a) i) f .device)
+      ∙ size-is a in
+      let long : suc i < length (l₂ .links) = rw (length-set (loopOf a .links) i (tail (link (loopOf a) i)))
+      (omega (arith, links-long, in-range)) in
+      rw next-link
+      (sym (link-put l₂ (suc i) q long)
+      ∙ rw (same, area-2) (sym
+      (spliced (linkAt (countIn a) (suc i)) linkSize (linkOf q) (linkLess i f a) (link-wide q))))
+
+obeys : Obeys acts
+obeys =
+    record {
+      leaves = λ i f fs a b j h e r. ap (λ (o : After HopAnswer). o .area) (hop-is i f fs a b j h e r)
+          ∙ area-3 i f fs a b j h e r;
+      answers = λ i f fs a b j h e r. ap (λ (o : After HopAnswer). hopped (o .answer)) (hop-is i f fs a b j h e r);
+    }
+
+pub demand-2 : Demand2
+demand-2 =
+    record {
+      table = in-order;
+      encode-decode = encode-decode;
+      decode-encode = decode-encode;
+      published = table-is-decoder;
+      hops = obeys;
+    }

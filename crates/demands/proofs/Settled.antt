@@ -1,0 +1,349 @@
+-- Each action on a sound loop's area is what it does with the loop, and on the loop it is the call of the line: in
+-- the loop that it leaves, and in what is read off its answer.
+use Prim.Native.Nat.{ℕ, zero, suc, _+_, _<_}
+use mathlib.Core.Path.{_≡_, refl, sym, ap, _∙_}
+use mathlib.Core.Bool.{Bool, true, false, not, cond, _&&_, and-false}
+use mathlib.Core.Option.{Option, none, some, Option·map}
+use mathlib.Core.List.{List, [], _∷_, _++_, map, append-nil}
+use native.Mathlib.Omega.{arith}
+use lib.Dec.{eqb, ltb}
+use borrow.Author.Tests.{eq-eqb, ne-eqb, ltb-true, eqb-true, eqb-false}
+use Rattle.frame.specs.Messages.{frames}
+use Rattle.device.specs.Local.{loads, setsStatus, wishes}
+use Rattle.area.specs.Loop.{Loop, loopOf, areaOf, judgeOf, Sound-loop}
+use Rattle.area.proofs.Laws.{loop-back, area-sound}
+use Rattle.pil.specs.Outcome.{Outcome, refuse, done, After, after, afterOf, callOf}
+use Rattle.pil.specs.Calls.{refusal, noHop, noTake, putIn, takeIn, hopIn, localIn}
+use Rattle.pil.specs.Drain.{noDrain, drainIn}
+use Rattle.pil.specs.declared.HopAnswer.{HopAnswer}
+use Rattle.pil.specs.declared.TakeAnswer.{TakeAnswer}
+use Rattle.pil.specs.declared.DrainAnswer.{DrainAnswer}
+use Rattle.order.specs.Line as line
+use Rattle.order.specs.Flat as flat
+use Rattle.order.specs.History as told
+use Rattle.order.specs.History.{ifSame, listed}
+use Rattle.order.specs.Order.{handedAt}
+use Rattle.order.proofs.Flat.{same-flat}
+use Rattle.order.proofs.Drain.{drain-is-hops, drain-stops}
+use Rattle.order.proofs.Through.{each-append}
+use Rattle.demands.specs.Calls.{numbers, Action, put, hop, take, load, status, wish, drain, Answer, plain, hopped}
+use Rattle.demands.specs.Calls.{taken, drained, acts, refusalIn}
+use Rattle.demands.specs.Histories.{Got, got, if, putBy, takenBy, handedBy, hopsBy, refusedBy, Local, toLoad}
+use Rattle.demands.specs.Histories.{toStatus, toWish, calledBy, model, calls}
+use Rattle.demands.proofs.Bridge.{loopFlat, toLoop, Alike, both-refuse, both-do, handedIn, put-alike, take-alike}
+use Rattle.demands.proofs.Bridge.{hop-alike, local-alike}
+use Rattle.demands.proofs.Drains.{drainAnswer, drained-alike}
+
+-- ---- on the loop
+
+-- the loop that an outcome leaves, and the answer
+abbrev pub settle : {A : Type 0} → (A → Answer) → (ℕ → A) → Loop → Outcome A → Loop × Answer
+settle kind deny m (refuse k) = (m, kind (deny k))
+settle kind deny m (done r n) = (n, kind r)
+
+abbrev pub onLoop : Action → Loop → Loop × Answer
+onLoop (put f) m = settle plain refusal m (putIn f m)
+onLoop (hop i) m = settle hopped noHop m (hopIn i m)
+onLoop take m = settle taken noTake m (takeIn m)
+onLoop (load i bs) m = settle plain refusal m (localIn (λ d. loads d (numbers bs)) i m)
+onLoop (status i s) m = settle plain refusal m (localIn (λ d. setsStatus d (s .value)) i m)
+onLoop (wish i w) m = settle plain refusal m (localIn (λ d. wishes d w) i m)
+onLoop (drain b) m = settle drained noDrain m (drainIn b m)
+
+-- an answer and an area are those of a loop and its answer
+abbrev IsOn : After Answer → Loop × Answer → Type 0
+IsOn o p = (o .area ≡ areaOf (p .0)) × (o .answer ≡ p .1)
+
+module _ (m : Loop) (s : Sound-loop m) where
+  settled : {A : Type 0} (kind : A → Answer) (deny : ℕ → A) (call : Loop → Outcome A) →
+      IsOn (after (kind (callOf deny call (areaOf m) .answer)) (callOf deny call (areaOf m) .area))
+      (settle kind deny m (call m))
+  unfolding callOf
+  settled kind deny call = rw (area-sound m s, loop-back m s) (go (call m))
+    where
+      go : (o : Outcome _) →
+          IsOn (after (kind (afterOf deny (areaOf m) o .answer)) (afterOf deny (areaOf m) o .area))
+          (settle kind deny m o)
+      go (refuse k) = (refl, refl)
+      go (done r n) = (refl, refl)
+
+  pub acts-on : (c : Action) → IsOn (acts c (areaOf m)) (onLoop c m)
+  acts-on (put f) = settled plain refusal (putIn f)
+  acts-on (hop i) = settled hopped noHop (hopIn i)
+  acts-on take = settled taken noTake takeIn
+  acts-on (load i bs) = settled plain refusal (localIn (λ d. loads d (numbers bs)) i)
+  acts-on (status i x) = settled plain refusal (localIn (λ d. setsStatus d (x .value)) i)
+  acts-on (wish i w) = settled plain refusal (localIn (λ d. wishes d w) i)
+  acts-on (drain b) = settled drained noDrain (drainIn b)
+
+-- ---- what is read off an answer is what happened
+
+-- a call whose arguments the line can take: a put of a frame, and every other
+abbrev pub fair : Action → Bool
+fair (put f) = ltb f frames
+fair (hop i) = true
+fair take = true
+fair (load i bs) = true
+fair (status i s) = true
+fair (wish i w) = true
+fair (drain b) = true
+
+pub record Reads (c : Action) (r : Answer) (es : List (line.Event model)) : Type 0 where
+  pub puts : putBy c r ≡ told.puts es
+  pub taken : takenBy c r ≡ told.taken es
+  pub handed : (i : ℕ) → handedBy i c r ≡ told.handed es i
+  pub hops : hopsBy c r ≡ told.hopsMade es
+  pub refused : cond (fair c) (refusedBy c r) 0 ≡ told.refusals es
+
+-- the loop after an action is that of the line after its calls, and its answer tells what happened
+pub record Follows (c : Action) (l : line.Loop model) (p : Loop × Answer)
+    (q : line.Loop model × List (line.Event model)) : Type 0 where
+  pub loop : p .0 ≡ toLoop (q .0)
+  pub reads : Reads c (p .1) (q .1)
+
+not-zero : (k : ℕ) → (k ≡ 0 → ⊥) → _≡_ {A = ℕ} (cond (eqb k 0) 0 1) 1
+not-zero k h = rw (ne-eqb k 0 h)
+
+no-if : {A : Type 0} (k : ℕ) (x : A) → (k ≡ 0 → ⊥) → if (eqb k 0) x ≡ []
+no-if k x h = rw (ne-eqb k 0 h)
+
+is-if : {A : Type 0} (k : ℕ) (x : A) → k ≡ 0 → if (eqb k 0) x ≡ x ∷ []
+is-if k x h = rw (eq-eqb k 0 h)
+
+-- put
+put-follows : (f : ℕ) (l : line.Loop model) (o : Outcome ℕ) (p : Option (line.Loop model)) → ltb f frames ≡ true →
+    Alike ℕ (Unit {0}) (λ r b. r ≡ 0) o (Option·map (λ x. (x, tt)) (Option·map (λ l′. flat.flat l′) p)) →
+    Follows (put f) l (settle plain refusal (toLoop l) o)
+    (line.firstly ((line.reply l (Option·map (λ l′. (l′, line.was-put f)) p)) .1)
+    ((line.reply l (Option·map (λ l′. (l′, line.was-put f)) p)) .0, []))
+put-follows f l o none h (both-refuse k z) =
+    record {
+      loop = refl;
+      reads = record {
+        puts = no-if k f z;
+        taken = refl;
+        handed = λ i. refl;
+        hops = refl;
+        refused = rw h
+            (not-zero k z);
+      };
+    }
+put-follows f l o (some q) h (both-do r m x b e t) =
+    record {
+      loop = e;
+      reads = record {
+        puts = is-if r f t;
+        taken = refl;
+        handed = λ i. refl;
+        hops = refl;
+        refused = rw (h, t);
+      };
+    }
+
+-- a local call, whichever it is
+module _ (c : Action) (i : ℕ) (x : Local) (fine : fair c ≡ true) (quiet : (k : ℕ) → putBy c (plain k) ≡ []) where
+  local-follows : (l : line.Loop model) (o : Outcome ℕ) (p : Option (line.Loop model)) →
+      Alike ℕ (Unit {0}) (λ r b. r ≡ 0) o (Option·map (λ y. (y, tt)) (Option·map (λ l′. flat.flat l′) p)) →
+      Follows c l (settle plain refusal (toLoop l) o)
+      (line.firstly ((line.reply l (Option·map (λ l′. (l′, line.called i x)) p)) .1)
+      ((line.reply l (Option·map (λ l′. (l′, line.called i x)) p)) .0, []))
+  local-follows l o none (both-refuse k z) =
+      record {
+        loop = refl;
+        reads = record {
+          puts = quiet k;
+          taken = refl;
+          handed = λ j. refl;
+          hops = refl;
+          refused = rw fine
+              (not-zero k z);
+        };
+      }
+  local-follows l o (some q) (both-do r m y b e t) =
+      record {
+        loop = e;
+        reads = record {
+          puts = quiet r;
+          taken = refl;
+          handed = λ j. refl;
+          hops = refl;
+          refused = rw
+              (fine, t);
+        };
+      }
+
+-- take
+take-follows : (l : line.Loop model) (o : Outcome TakeAnswer) (p : Option (line.Loop model × ℕ)) →
+    Alike TakeAnswer ℕ (λ r f. (r .refusal ≡ 0) × (r .frame ≡ f)) o (Option·map (λ q. (flat.flat (q .0), q .1)) p) →
+    Follows take l (settle taken noTake (toLoop l) o)
+    (line.firstly ((line.reply l (Option·map (λ q. (q .0, line.was-taken (q .1))) p)) .1)
+    ((line.reply l (Option·map (λ q. (q .0, line.was-taken (q .1))) p)) .0, []))
+take-follows l o none (both-refuse k z) =
+    record {
+      loop = refl;
+      reads = record { puts = refl; taken = no-if k 0 z; handed = λ i. refl; hops = refl; refused = not-zero k z };
+    }
+take-follows l o (some q) (both-do r m x b e t) =
+    record {
+      loop = e;
+      reads = record {
+        puts = refl;
+        taken = is-if (r .refusal) (r .frame) (t .0)
+            ∙ ap (λ (f : ℕ). f ∷ []) (t .1);
+        handed = λ i. refl;
+        hops = refl;
+        refused = rw (t .0);
+      };
+    }
+
+-- hop
+here : {A : Type 0} (i : ℕ) (xs : List A) → ifSame i i xs ≡ xs
+here zero xs = refl
+here (suc i) xs = here i xs
+
+elsewhere : {A : Type 0} (i j : ℕ) (xs : List A) → (i ≡ j → ⊥) → ifSame i j xs ≡ []
+elsewhere zero zero xs h = absurd (h refl)
+elsewhere zero (suc j) xs h = refl
+elsewhere (suc i) zero xs h = refl
+elsewhere (suc i) (suc j) xs h = elsewhere i j xs (λ e. h (ap suc e))
+
+same-device : {A : Type 0} (i j : ℕ) (t : Bool) (x : A) → if (eqb i j && t) x ≡ ifSame i j (if t x)
+same-device i j t x = go (eqb i j) refl
+  where
+    go : (s : Bool) → eqb i j ≡ s → if (s && t) x ≡ ifSame i j (if t x)
+    go true e = let z : i ≡ j = eqb-true i j e in rw z (sym (here j (if t x)))
+    go false e = sym (elsewhere i j (if t x) (eqb-false i j e))
+
+none-same : {A : Type 0} (i j : ℕ) → ifSame {A = A} i j [] ≡ []
+none-same zero zero = refl
+none-same zero (suc j) = refl
+none-same (suc i) zero = refl
+none-same (suc i) (suc j) = none-same i j
+
+hop-follows : (j : ℕ) (l : line.Loop model) (o : Outcome HopAnswer) (p : Option (line.Loop model × Option Got)) →
+    Alike HopAnswer (Option Got) (λ r b. (r .refusal ≡ 0) × (handedIn r ≡ listed b)) o
+    (Option·map (λ q. (flat.flat (q .0), q .1)) p) →
+    Follows (hop j) l (settle hopped noHop (toLoop l) o)
+    (line.firstly ((line.reply l (Option·map (λ q. (q .0, line.hopped j (q .1))) p)) .1)
+    ((line.reply l (Option·map (λ q. (q .0, line.hopped j (q .1))) p)) .0, []))
+hop-follows j l o none (both-refuse k z) =
+    record {
+      loop = refl;
+      reads = record {
+        puts = refl;
+        taken = refl;
+        handed = λ i. same-device i j false (got 0 0)
+            ∙ none-same i j;
+        hops = rw (ne-eqb k 0 z);
+        refused = not-zero k z;
+      };
+    }
+hop-follows j l o (some q) (both-do r m x b e t) =
+    record {
+      loop = e;
+      reads =
+          record {
+            puts = refl;
+            taken = refl;
+            handed = λ i. same-device i j (eqb (r .handed) 1) (got (r .byte) (r .end))
+                ∙ ap (λ (g : List Got). ifSame i j g) (t .1) ∙ sym (append-nil (ifSame i j (listed (q .1))));
+            hops = rw (t .0);
+            refused = rw (t .0);
+          };
+    }
+
+-- drain: a row of hops puts nothing and takes nothing out
+module _ where
+  hop-quiet : (l : line.Loop model) (i : ℕ) →
+      (told.puts ((line.answer l (line.hop i)) .1) ≡ []) × (told.taken ((line.answer l (line.hop i)) .1) ≡ [])
+  hop-quiet l i = go (line.hopAt l i)
+    where
+      go : (o : Option (line.Loop model × Option Got)) →
+          (told.puts ((line.reply l (Option·map (λ p. (p .0, line.hopped i (p .1))) o)) .1) ≡ []) ×
+          (told.taken ((line.reply l (Option·map (λ p. (p .0, line.hopped i (p .1))) o)) .1) ≡ [])
+      go none = (refl, refl)
+      go (some p) = (refl, refl)
+
+  hops-quiet : (l : line.Loop model) (is : List ℕ) →
+      (told.puts ((line.run l (map line.hop is)) .1) ≡ []) × (told.taken ((line.run l (map line.hop is)) .1) ≡ [])
+  hops-quiet l [] = (refl, refl)
+  hops-quiet l (i ∷ is) =
+      let p = hop-quiet l i in
+      let q = hops-quiet ((line.answer l (line.hop i)) .0) is in
+      let es = (line.answer l (line.hop i)) .1 in
+      let fs = (line.run ((line.answer l (line.hop i)) .0) (map line.hop is)) .1 in (
+        each-append (λ e. told.putBy e) es fs ∙ rw (p .0) (q .0),
+        each-append (λ e. told.takenBy e) es fs
+            ∙ rw (p .1) (q .1),
+      )
+
+handed-at : (i h b : ℕ) (why : line.Stop model) →
+    handedBy i (drain b) (drained (drainAnswer h why)) ≡ handedAt model i why
+handed-at i h b line.no-hop = rw (and-false (eqb i 0))
+handed-at i h b line.spent = rw (and-false (eqb i 0))
+handed-at i h b (line.handing j x) = same-device i j true x
+
+drain-follows : (b : ℕ) (l : line.Loop model) →
+    Follows (drain b) l (settle drained noDrain (toLoop l) (drainIn b (toLoop l))) (line.run l (line.drain b ∷ []))
+drain-follows b l =
+    let d = line.draining b l in
+    let es = d .events in
+    let h = drain-is-hops model b l in
+    let q = hops-quiet l (h .0) in
+    rw (drained-alike b 0 l, append-nil es)
+    (record {
+      loop = refl;
+      reads =
+          record {
+            puts = sym (ap (λ (p : line.Loop model × List (line.Event model)). told.puts (p .1)) (sym (h .1)) ∙ q .0);
+            taken = sym (ap (λ (p : line.Loop model × List (line.Event model)). told.taken (p .1)) (sym (h .1)) ∙ q .1);
+            handed = λ i. handed-at i (0 + told.hopsMade es) b (d .stop) ∙ sym (drain-stops model b l .alone i);
+            hops = hops-told (told.hopsMade es) (d .stop);
+            refused = refused-told (told.hopsMade es) (d .stop) ∙ sym (h .2);
+          };
+    })
+  where
+    hops-told : (n : ℕ) (why : line.Stop model) → drainAnswer (0 + n) why .hops ≡ n
+    hops-told n line.no-hop = omega arith
+    hops-told n line.spent = omega arith
+    hops-told n (line.handing j x) = omega arith
+
+    refused-told : (n : ℕ) (why : line.Stop model) → _≡_ {A = ℕ} (cond (eqb (drainAnswer (0 + n) why .refusal) 0) 0 1) 0
+    refused-told n line.no-hop = refl
+    refused-told n line.spent = refl
+    refused-told n (line.handing j x) = refl
+
+-- a put of what is no frame refuses, and is no call of the line
+bad-follows : (f : ℕ) (l : line.Loop model) → ltb f frames ≡ false →
+    Follows (put f) l (settle plain refusal (toLoop l) (putIn f (toLoop l))) (l, [])
+unfolding putIn
+bad-follows f l e = rw e
+    (record {
+      loop = refl;
+      reads = record { puts = refl; taken = refl; handed = λ i. refl; hops = refl; refused = rw e };
+    })
+
+-- ---- every action
+
+pub follows : (c : Action) (l : line.Loop model) → Follows c l (onLoop c (toLoop l)) (line.run l (calls c))
+follows (put f) l = go (ltb f frames) refl
+  where
+    go : (t : Bool) → ltb f frames ≡ t →
+        Follows (put f) l (settle plain refusal (toLoop l) (putIn f (toLoop l))) (line.run l (if t (line.put f)))
+    go true e = put-follows f l (putIn f (toLoop l)) (line.push l f) e
+        (rw (same-flat model .same-put l f) at (put-alike f (flat.flat l) (ltb-true _ _ e)))
+    go false e = bad-follows f l e
+follows (hop i) l = hop-follows i l (hopIn i (toLoop l)) (line.hopAt l i)
+    (rw (same-flat model .same-hop l i) at (hop-alike i (flat.flat l)))
+follows take l = take-follows l (takeIn (toLoop l)) (line.takeOut l)
+    (rw (same-flat model .same-take l) at (take-alike (flat.flat l)))
+follows (load i bs) l =
+    local-follows (load i bs) i (toLoad bs) refl (λ k. refl) l _ (line.callAt l i (toLoad bs))
+    (rw (same-flat model .same-call l i (toLoad bs)) at (local-alike (toLoad bs) i (flat.flat l)))
+follows (status i s) l =
+    local-follows (status i s) i (toStatus s) refl (λ k. refl) l _ (line.callAt l i (toStatus s))
+    (rw (same-flat model .same-call l i (toStatus s)) at (local-alike (toStatus s) i (flat.flat l)))
+follows (wish i w) l =
+    local-follows (wish i w) i (toWish w) refl (λ k. refl) l _ (line.callAt l i (toWish w))
+    (rw (same-flat model .same-call l i (toWish w)) at (local-alike (toWish w) i (flat.flat l)))
+follows (drain b) l = drain-follows b l

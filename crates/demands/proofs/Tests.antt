@@ -1,0 +1,169 @@
+-- The tests of each call on a loop, as the conditions of the table that concern it.
+use Prim.Native.Nat.{ℕ, zero, suc, _≤_, _<_}
+use mathlib.Core.Path.{_≡_, refl, sym, ap, _∙_}
+use mathlib.Core.Bool.{Bool, true, false, not, cond}
+use mathlib.Core.List.{List, [], _∷_, map}
+use native.Mathlib.Omega.{arith}
+use lib.ListN.{length, drop, length-map}
+use lib.Dec.{eqb, ltb, leb}
+use borrow.Author.Tests.{eqb-true, eqb-false}
+use Rattle.frame.specs.Messages.{frames}
+use Rattle.device.specs.Choose.{choose}
+use Rattle.device.specs.Device.{has}
+use Rattle.device.specs.Change.{loading}
+use Rattle.device.specs.Local.{refused, accepted, loads, setsStatus, wishes}
+use Rattle.device.specs.declared.Device.{Device}
+use Rattle.device.specs.declared.Called.{Called}
+use Rattle.device.specs.declared.Handed.{Handed}
+use Rattle.device.specs.declared.Handed.the-variants as handed
+use Rattle.record.specs.Record.{recordSize, deviceOf}
+use Rattle.area.specs.Sizes.{depth, headerSize}
+use Rattle.area.specs.Parts.{parts}
+use Rattle.area.specs.Loop.{Loop, countIn, recordsIn, size, loopOf, device, link}
+use Rattle.area.specs.Lookup.{oldestOf, setDevice}
+use Rattle.area.specs.declared.Oldest.{Oldest}
+use Rattle.area.specs.declared.Place.{Place}
+use Rattle.pil.specs.Outcome.{Outcome, refuse, done}
+use Rattle.pil.specs.Calls.{refusal, hopAnswer, sentBy, passed, putIn, takeFrom, takeIn, hopFrom, hopIn, calledIn}
+use Rattle.pil.specs.Calls.{localIn, hasRoom}
+use Rattle.pil.specs.Drain.{onPlace, stopped, handedTo, turned, highest, drainFrom}
+use Rattle.pil.specs.declared.HopAnswer.{HopAnswer}
+use Rattle.pil.specs.declared.TakeAnswer.{TakeAnswer}
+use Rattle.pil.specs.declared.DrainAnswer.{DrainAnswer}
+use Rattle.demands.proofs.Refusals.{Told, no, yes, turned-lt, told-cond, none-is, some-is}
+
+-- byte 0 is how many devices there are
+length-parts : (w n : ℕ) (b : List ℕ) → length (parts w n b) ≡ n
+unfolding parts
+length-parts w zero b = refl
+length-parts w (suc n) b = ap suc (length-parts w n _)
+
+pub size-is : (a : List ℕ) → size (loopOf a) ≡ countIn a
+unfolding loopOf
+size-is a = length-map (recordsIn a) deviceOf ∙ length-parts recordSize (countIn a) (drop headerSize a)
+
+pub put-told : (f : ℕ) (l : Loop) →
+    Told ℕ refusal (putIn f l) (cond (leb frames f) 4 (cond (leb depth (length (link l 0))) 6 0))
+unfolding putIn
+put-told f l =
+    rw (turned-lt f frames 4 (cond (leb depth (length (link l 0))) 6 0), turned-lt (length (link l 0)) depth 6 0)
+    (told-cond (ltb f frames) _ _ _ _ (told-cond (hasRoom 0 l) _ _ _ _ (yes 0 _ refl) (no 6 (λ z. omega arith)))
+    (no 4 (λ z. omega arith)))
+
+abbrev takeRefusal : TakeAnswer → ℕ
+takeRefusal r = r .refusal
+
+pub take-told : (l : Loop) → Told TakeAnswer takeRefusal (takeIn l) (cond (eqb (length (link l (size l))) 0) 5 0)
+unfolding takeIn
+take-told l = go (oldestOf (link l (size l))) refl
+  where
+    go : (o : Oldest) → oldestOf (link l (size l)) ≡ o →
+        Told TakeAnswer takeRefusal (takeFrom l o) (cond (eqb (length (link l (size l))) 0) 5 0)
+    go Oldest.Empty e = rw (none-is (link l (size l)) 0 e) (no 5 (λ z. omega arith))
+    go (Oldest.Frame f) e = rw (some-is (link l (size l)) f 0 e) (yes _ _ refl)
+
+abbrev hopRefusal : HopAnswer → ℕ
+hopRefusal r = r .refusal
+
+hop-done : (f : ℕ) (h : Handed) → hopAnswer f h .refusal ≡ 0
+hop-done f handed.Nothing = refl
+hop-done f (handed.Byte b e) = refl
+
+pub hop-told : (i : ℕ) (l : Loop) → Told HopAnswer hopRefusal (hopIn i l)
+    (cond (leb (size l) i) 3 (cond (eqb (length (link l i)) 0) 5 (cond (leb depth (length (link l (suc i)))) 6 0)))
+unfolding hopIn
+hop-told i l =
+    rw (turned-lt i (size l) 3 (cond (eqb (length (link l i)) 0) 5 (cond (leb depth (length (link l (suc i)))) 6 0)))
+    (told-cond (ltb i (size l)) _ _ _ _ (go (oldestOf (link l i)) refl) (no 3 (λ z. omega arith)))
+  where
+    go : (o : Oldest) → oldestOf (link l i) ≡ o →
+        Told HopAnswer hopRefusal (hopFrom i l o)
+        (cond (eqb (length (link l i)) 0) 5 (cond (leb depth (length (link l (suc i)))) 6 0))
+    go Oldest.Empty e = rw (none-is (link l i) (cond (leb depth (length (link l (suc i)))) 6 0) e)
+        (no 5 (λ z. omega arith))
+    go (Oldest.Frame f) e =
+        rw (
+          some-is (link l i) f (cond (leb depth (length (link l (suc i)))) 6 0) e,
+          turned-lt
+              (length (link l (suc i))) depth 6 0,
+        )
+        (told-cond (hasRoom (suc i) l) _ _ _ _ (yes _ _ (hop-done (sentBy i f l .frame) (sentBy i f l .handed)))
+        (no 6 (λ z. omega arith)))
+
+-- ---- local calls
+
+called-told : (i : ℕ) (l : Loop) (c : Called) → Told ℕ refusal (calledIn i l c) (c .refusal)
+called-told i l c = go (eqb (c .refusal) 0) refl
+  where
+    go : (t : Bool) → eqb (c .refusal) 0 ≡ t →
+        Told ℕ refusal (cond t (done 0 (setDevice i (c .device) l)) (refuse (c .refusal))) (c .refusal)
+    go true e = rw (eqb-true (c .refusal) 0 e) (yes 0 _ refl)
+    go false e = no (c .refusal) (eqb-false (c .refusal) 0 e)
+
+pub local-told : (call : Device → Called) (i : ℕ) (l : Loop) →
+    Told ℕ refusal (localIn call i l) (cond (leb (size l) i) 3 (call (device l i) .refusal))
+unfolding localIn
+local-told call i l =
+    rw (turned-lt i (size l) 3 (call (device l i) .refusal))
+    (told-cond (ltb i (size l)) _ _ _ _ (called-told i l (call (device l i))) (no 3 (λ z. omega arith)))
+
+chosen-refusal : (b : Bool) (x y : Called) → choose b x y .refusal ≡ cond (not b) (y .refusal) (x .refusal)
+unfolding choose
+chosen-refusal true x y = refl
+chosen-refusal false x y = refl
+
+passed-refusal : (b : Bool) (x y : Called) → choose b x y .refusal ≡ cond b (x .refusal) (y .refusal)
+unfolding choose
+passed-refusal true x y = refl
+passed-refusal false x y = refl
+
+module _ (d : Device) where
+  pub load-refusal : (bs : List ℕ) →
+      loads d bs .refusal ≡ cond (not (has d 2)) 7 (cond (ltb 32 (length bs)) 8 (cond (eqb (d .talker) 2) 9 0))
+  unfolding loads
+  load-refusal bs =
+      chosen-refusal (has d 2) _ _
+      ∙ rw (
+        passed-refusal (ltb 32 (length bs)) (refused 8 d)
+            (choose (eqb (d .talker) 2) (refused 9 d) (accepted (loading d bs))),
+        passed-refusal (eqb (d .talker) 2)
+            (refused 9 d) (accepted (loading d bs)),
+      )
+
+  pub status-refusal : (s : ℕ) → setsStatus d s .refusal ≡ cond (not (has d 4)) 7 0
+  unfolding setsStatus
+  status-refusal s = chosen-refusal (has d 4) _ _
+
+  pub wish-refusal : (w : ℕ) → wishes d w .refusal ≡ cond (not (has d 128)) 7 0
+  unfolding wishes
+  wish-refusal w = chosen-refusal (has d 128) _ _
+
+-- ---- the drain refuses nothing
+
+abbrev drainRefusal : DrainAnswer → ℕ
+drainRefusal r = r .refusal
+
+-- an outcome that refuses nothing
+abbrev Never : Outcome DrainAnswer → Type 0
+Never o = Told DrainAnswer drainRefusal o 0
+
+turned-told : (i h : ℕ) (next : Loop → Outcome DrainAnswer) (l : Loop) (o : Outcome HopAnswer) →
+    ((m : Loop) → Never (next m)) → Never (turned i h next l o)
+turned-told i h next l (refuse k) n = n l
+turned-told i h next l (done r m) n = go (eqb (r .handed) 1)
+  where
+    go : (t : Bool) → Never (cond t (handedTo i h r m) (next m))
+    go true = yes _ _ refl
+    go false = n m
+
+placed-told : (x : Outcome DrainAnswer) (y : ℕ → Outcome DrainAnswer) (p : Place) → Never x →
+    ((i : ℕ) → Never (y i)) → Never (onPlace x y p)
+placed-told x y Place.NoDevice u v = u
+placed-told x y (Place.At i) u v = v i
+
+pub drain-told : (b h : ℕ) (l : Loop) → Never (drainFrom b h l)
+unfolding drainFrom
+drain-told zero h l = placed-told _ _ (highest (size l) l) (yes _ _ refl) (λ i. yes _ _ refl)
+drain-told (suc b) h l =
+    placed-told _ _ (highest (size l) l) (yes _ _ refl)
+    (λ i. turned-told i (suc h) (drainFrom b (suc h)) l (hopIn i l) (λ m. drain-told b (suc h) m))

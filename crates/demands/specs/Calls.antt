@@ -1,0 +1,94 @@
+-- Every exported call with any arguments, and what it answers and leaves: the very definitions that the contracts of
+-- the exported functions cite.
+use Prim.Native.Nat.{ℕ, _<_}
+use mathlib.Core.List.{List, map}
+use Rattle.pil.specs.Outcome.{After, after}
+use Rattle.pil.specs.Calls.{noTake, noHop, putOf, takeOf, hopOf, loadOf, statusOf, wishOf}
+use Rattle.pil.specs.Drain.{noDrain, drainOf}
+use Rattle.pil.specs.SetUp.{setUpOf}
+use Rattle.pil.specs.Coding.{decodeAnswer, encodeAnswer}
+use Rattle.pil.specs.declared.HopAnswer.{HopAnswer}
+use Rattle.pil.specs.declared.TakeAnswer.{TakeAnswer}
+use Rattle.pil.specs.declared.DrainAnswer.{DrainAnswer}
+use Rattle.pil.specs.declared.DecodeAnswer.{DecodeAnswer}
+use Rattle.pil.specs.declared.EncodeAnswer.{EncodeAnswer}
+
+-- a byte, as C has it
+pub record Byte : Type 0 where
+  pub value : ℕ
+  pub small : value < 256
+
+abbrev pub numbers : List Byte → List ℕ
+numbers bs = map (λ (b : Byte). b .value) bs
+
+-- a call on the area of a loop that is set up
+pub data Action : Type 0 where
+  put : ℕ → Action
+  hop : ℕ → Action
+  take : Action
+  load : ℕ → List Byte → Action
+  status : ℕ → Byte → Action
+  wish : ℕ → ℕ → Action
+  drain : ℕ → Action
+
+-- any exported call
+pub data Call : Type 0 where
+  does : Action → Call
+  setUp : List Byte → Call
+  decode : ℕ → Call
+  encode : ℕ → ℕ → Call
+
+-- what a C caller is answered
+pub data Answer : Type 0 where
+  plain : ℕ → Answer
+  hopped : HopAnswer → Answer
+  taken : TakeAnswer → Answer
+  drained : DrainAnswer → Answer
+  decoded : DecodeAnswer → Answer
+  encoded : EncodeAnswer → Answer
+
+-- an answer of one type as any answer
+abbrev pub told : {A : Type 0} → (A → Answer) → After A → After Answer
+told kind o = after (kind (o .answer)) (o .area)
+
+-- what a call on an area answers and leaves
+abbrev pub acts : Action → List ℕ → After Answer
+acts (put f) a = told plain (putOf a f)
+acts (hop i) a = told hopped (hopOf a i)
+acts take a = told taken (takeOf a)
+acts (load i bs) a = told plain (loadOf a i (numbers bs))
+acts (status i s) a = told plain (statusOf a i (s .value))
+acts (wish i w) a = told plain (wishOf a i w)
+acts (drain b) a = told drained (drainOf a b)
+
+-- what a call answers and leaves; decoder and encoder are lent no area
+abbrev pub pil : Call → List ℕ → After Answer
+pil (does c) a = acts c a
+pil (setUp items) a = told plain (setUpOf a (numbers items))
+pil (decode f) a = after (decoded (decodeAnswer f)) a
+pil (encode k o) a = after (encoded (encodeAnswer k o)) a
+
+-- the refusal in an answer, 0 for none
+abbrev pub refusalIn : Answer → ℕ
+refusalIn (plain k) = k
+refusalIn (hopped r) = r .refusal
+refusalIn (taken r) = r .refusal
+refusalIn (drained r) = r .refusal
+refusalIn (decoded r) = r .refusal
+refusalIn (encoded r) = r .refusal
+
+-- the answer of a refusal: its number and otherwise zeros
+abbrev pub bareAction : Action → ℕ → Answer
+bareAction (put f) k = plain k
+bareAction (hop i) k = hopped (noHop k)
+bareAction take k = taken (noTake k)
+bareAction (load i bs) k = plain k
+bareAction (status i s) k = plain k
+bareAction (wish i w) k = plain k
+bareAction (drain b) k = drained (noDrain k)
+
+abbrev pub bare : Call → ℕ → Answer
+bare (does c) k = bareAction c k
+bare (setUp items) k = plain k
+bare (decode f) k = decoded (record { refusal = k; kind = 0 })
+bare (encode j o) k = encoded (record { frame = 0; refusal = k })

@@ -1,0 +1,152 @@
+-- The nine conditions of 01's refusal table, each a test of a call and an area, written from the table row by row.
+use Prim.Native.Nat.{ℕ, zero, suc, _*_}
+use mathlib.Core.List.{List, [], _∷_}
+use mathlib.Core.Bool.{Bool, false, not, cond, _||_}
+use lib.ListN.{length}
+use lib.Dec.{eqb, ltb, leb}
+use Rattle.frame.specs.Messages.{frames, codesOf}
+use Rattle.device.specs.Device.{sendData, status as sendStatus, serviceRequest, sendingData, mostData, has}
+use Rattle.record.specs.Sound.{allowed}
+use Rattle.area.specs.Sizes.{depth, mostDevices, itemSize, areaSize}
+use Rattle.area.specs.Parts.{parts, all}
+use Rattle.area.specs.Loop.{countIn, loopOf, sound, device, link}
+use Rattle.demands.specs.Calls.{numbers, Action, put, hop, take, load, status, wish, drain, Call, does, setUp}
+use Rattle.demands.specs.Calls.{decode, encode}
+
+-- the number of devices, n at most, whose area has this length; 0 if there is none
+abbrev pub devicesUpTo : ℕ → ℕ → ℕ
+devicesUpTo zero size = 0
+devicesUpTo (suc n) size = cond (eqb size (areaSize (suc n))) (suc n) (devicesUpTo n size)
+
+abbrev pub devicesAt : ℕ → ℕ
+devicesAt size = devicesUpTo mostDevices size
+
+-- 1, Shape: the area's length isn't one of 1 to 15 devices, or not that of byte 0;
+-- at set up the items' length isn't 12n for the n of the area's length
+abbrev pub Shape : Call → List ℕ → Bool
+Shape (does c) a = eqb (devicesAt (length a)) 0 || not (eqb (length a) (areaSize (countIn a)))
+Shape (setUp items) a = eqb (devicesAt (length a)) 0 || not
+    (eqb (length (numbers items)) (itemSize * devicesAt (length a)))
+Shape (decode f) a = false
+Shape (encode k o) a = false
+
+-- 2, Unsound: the contents aren't sound; at set up an item isn't allowed, and the contents aren't looked at
+abbrev pub Unsound : Call → List ℕ → Bool
+Unsound (does c) a = not (sound a)
+Unsound (setUp items) a = not (all allowed (parts itemSize (devicesAt (length a)) (numbers items)))
+Unsound (decode f) a = false
+Unsound (encode k o) a = false
+
+-- 3, NoDevice: the device number is n or more
+abbrev pub NoDevice : Action → List ℕ → Bool
+NoDevice (put f) a = false
+NoDevice (hop i) a = leb (countIn a) i
+NoDevice take a = false
+NoDevice (load i bs) a = leb (countIn a) i
+NoDevice (status i s) a = leb (countIn a) i
+NoDevice (wish i w) a = leb (countIn a) i
+NoDevice (drain b) a = false
+
+-- 4, BadFrame: a frame over 2,047 at put or decoder; a kind or an offset outside the list at the encoder
+abbrev pub BadFrame : Call → Bool
+BadFrame (does (put f)) = leb frames f
+BadFrame (does (hop i)) = false
+BadFrame (does take) = false
+BadFrame (does (load i bs)) = false
+BadFrame (does (status i s)) = false
+BadFrame (does (wish i w)) = false
+BadFrame (does (drain b)) = false
+BadFrame (setUp items) = false
+BadFrame (decode f) = leb frames f
+BadFrame (encode k o) = leb (codesOf k) o
+
+-- link j holds no frame; it holds four
+abbrev pub holdsNone : ℕ → List ℕ → Bool
+holdsNone j a = eqb (length (link (loopOf a) j)) 0
+
+abbrev pub holdsFour : ℕ → List ℕ → Bool
+holdsFour j a = leb depth (length (link (loopOf a) j))
+
+-- 5, Empty: the link to take from holds none
+abbrev pub Empty : Action → List ℕ → Bool
+Empty (put f) a = false
+Empty (hop i) a = holdsNone i a
+Empty take a = holdsNone (countIn a) a
+Empty (load i bs) a = false
+Empty (status i s) a = false
+Empty (wish i w) a = false
+Empty (drain b) a = false
+
+-- 6, Full: the link to add to holds four
+abbrev pub Full : Action → List ℕ → Bool
+Full (put f) a = holdsFour 0 a
+Full (hop i) a = holdsFour (suc i) a
+Full take a = false
+Full (load i bs) a = false
+Full (status i s) a = false
+Full (wish i w) a = false
+Full (drain b) a = false
+
+-- device i lacks an ability
+abbrev pub lacks : ℕ → ℕ → List ℕ → Bool
+lacks i able a = not (has (device (loopOf a) i) able)
+
+-- 7, NoAbility: load without 2, status without 4, wish without 128
+abbrev pub NoAbility : Action → List ℕ → Bool
+NoAbility (put f) a = false
+NoAbility (hop i) a = false
+NoAbility take a = false
+NoAbility (load i bs) a = lacks i sendData a
+NoAbility (status i s) a = lacks i sendStatus a
+NoAbility (wish i w) a = lacks i serviceRequest a
+NoAbility (drain b) a = false
+
+-- 8, TooLong: load over 32 bytes
+abbrev pub TooLong : Action → Bool
+TooLong (put f) = false
+TooLong (hop i) = false
+TooLong take = false
+TooLong (load i bs) = ltb mostData (length (numbers bs))
+TooLong (status i s) = false
+TooLong (wish i w) = false
+TooLong (drain b) = false
+
+-- 9, Busy: load in talker state 2
+abbrev pub Busy : Action → List ℕ → Bool
+Busy (put f) a = false
+Busy (hop i) a = false
+Busy take a = false
+Busy (load i bs) a = eqb (device (loopOf a) i .talker) sendingData
+Busy (status i s) a = false
+Busy (wish i w) a = false
+Busy (drain b) a = false
+
+-- an action's condition, and no other call's
+abbrev pub ofAction : (Action → List ℕ → Bool) → Call → List ℕ → Bool
+ofAction test (does c) a = test c a
+ofAction test (setUp items) a = false
+ofAction test (decode f) a = false
+ofAction test (encode k o) a = false
+
+-- the table: whether each condition holds, in the order of its number
+abbrev pub table : Call → List ℕ → List Bool
+table c a =
+    Shape c a ∷
+    Unsound c a ∷
+    ofAction NoDevice c a ∷
+    BadFrame c ∷
+    ofAction Empty c a ∷
+    ofAction Full c a ∷
+    ofAction NoAbility c a ∷
+    ofAction (λ d x. TooLong d) c a ∷
+    ofAction Busy c a ∷
+    []
+
+-- the first number, from n on, whose condition holds; 0 if none does
+abbrev pub firstOf : ℕ → List Bool → ℕ
+firstOf n [] = 0
+firstOf n (holds ∷ rest) = cond holds n (firstOf (suc n) rest)
+
+-- the lowest number whose condition holds
+abbrev pub lowest : Call → List ℕ → ℕ
+lowest c a = firstOf 1 (table c a)

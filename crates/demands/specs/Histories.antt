@@ -1,0 +1,204 @@
+-- Histories of calls on an area, what a caller in C reads off their answers, and the history that sends each frame
+-- right round.
+use Prim.Native.Nat.{ℕ, _+_}
+use mathlib.Core.Path.{_≡_}
+use mathlib.Core.Bool.{Bool, cond, _&&_}
+use mathlib.Core.Option.{Option, none, some}
+use mathlib.Core.List.{List, [], _∷_, _++_, map}
+use lib.Dec.{T, eqb, ltb, lit<}
+use Rattle.frame.specs.Messages.{frames}
+use Rattle.device.specs.Take.{takes}
+use Rattle.device.specs.Local.{loads, setsStatus, wishes}
+use Rattle.device.specs.declared.Device.{Device}
+use Rattle.device.specs.declared.Handed.{Handed}
+use Rattle.device.specs.declared.Handed.the-variants as handed
+use Rattle.device.specs.declared.Called.{Called}
+use Rattle.area.specs.Sizes.{depth}
+use Rattle.area.specs.Loop.{countIn, loopOf}
+use Rattle.pil.specs.Outcome.{After}
+use Rattle.order.specs.Line as line
+use Rattle.order.specs.Flat.{lineUp}
+use Rattle.order.specs.History.{Turn, turns}
+use Rattle.order.specs.RightRound.{first, rightRound}
+use Rattle.demands.specs.Calls.{Byte, numbers, Action, put, hop, take, load, status, wish, drain, Answer, plain}
+use Rattle.demands.specs.Calls.{hopped, taken, drained, decoded, encoded, acts, refusalIn}
+
+-- ---- A history: one call after the other. The area that it leaves, and the answers
+
+abbrev pub history : List ℕ → List Action → List ℕ × List Answer
+history a [] = (a, [])
+history a (c ∷ cs) = ((history (acts c a .area) cs) .0, acts c a .answer ∷ (history (acts c a .area) cs) .1)
+
+-- ---- What is read off each answer
+
+-- a byte handed over, with its end bit
+pub record Got : Type 0 where
+  pub byte : ℕ
+  pub end : ℕ
+
+abbrev pub got : ℕ → ℕ → Got
+got b e = record { byte = b; end = e }
+
+-- x where the test is passed, else nothing
+abbrev pub if : {A : Type 0} → Bool → A → List A
+if test x = cond test (x ∷ []) []
+
+-- the frame that a put placed, if it was not refused
+abbrev pub putBy : Action → Answer → List ℕ
+putBy (put f) r = if (eqb (refusalIn r) 0) f
+putBy (hop i) r = []
+putBy take r = []
+putBy (load i bs) r = []
+putBy (status i s) r = []
+putBy (wish i w) r = []
+putBy (drain b) r = []
+
+-- the frame that a take gave
+abbrev pub takenBy : Action → Answer → List ℕ
+takenBy c (plain k) = []
+takenBy c (hopped r) = []
+takenBy c (taken r) = if (eqb (r .refusal) 0) (r .frame)
+takenBy c (drained r) = []
+takenBy c (decoded r) = []
+takenBy c (encoded r) = []
+
+-- the device that a hop names
+abbrev pub hopper : Action → ℕ
+hopper (put f) = 0
+hopper (hop i) = i
+hopper take = 0
+hopper (load i bs) = 0
+hopper (status i s) = 0
+hopper (wish i w) = 0
+hopper (drain b) = 0
+
+-- the byte handed to device i, by a hop or at the end of a drain
+abbrev pub handedBy : ℕ → Action → Answer → List Got
+handedBy i c (plain k) = []
+handedBy i c (hopped r) = if (eqb i (hopper c) && eqb (r .handed) 1) (got (r .byte) (r .end))
+handedBy i c (taken r) = []
+handedBy i c (drained r) = if (eqb i (r .device) && eqb (r .reason) 2) (got (r .byte) (r .end))
+handedBy i c (decoded r) = []
+handedBy i c (encoded r) = []
+
+-- the hops made: one by a hop that was not refused, and as many as a drain says
+abbrev pub hopsBy : Action → Answer → ℕ
+hopsBy c (plain k) = 0
+hopsBy c (hopped r) = cond (eqb (r .refusal) 0) 1 0
+hopsBy c (taken r) = 0
+hopsBy c (drained r) = r .hops
+hopsBy c (decoded r) = 0
+hopsBy c (encoded r) = 0
+
+-- the refused calls
+abbrev pub refusedBy : Action → Answer → ℕ
+refusedBy c r = cond (eqb (refusalIn r) 0) 0 1
+
+-- ---- and off a whole history on an area
+
+abbrev pub each : {A : Type 0} → (Action → Answer → List A) → List Action → List Answer → List A
+each g [] rs = []
+each g (c ∷ cs) [] = []
+each g (c ∷ cs) (r ∷ rs) = g c r ++ each g cs rs
+
+abbrev pub total : (Action → Answer → ℕ) → List Action → List Answer → ℕ
+total g [] rs = 0
+total g (c ∷ cs) [] = 0
+total g (c ∷ cs) (r ∷ rs) = g c r + total g cs rs
+
+module _ (a : List ℕ) (cs : List Action) where
+  abbrev pub areaLeft : List ℕ
+  areaLeft = (history a cs) .0
+
+  abbrev pub framesPut : List ℕ
+  framesPut = each putBy cs ((history a cs) .1)
+
+  abbrev pub framesTaken : List ℕ
+  framesTaken = each takenBy cs ((history a cs) .1)
+
+  abbrev pub bytesHanded : ℕ → List Got
+  bytesHanded i = each (handedBy i) cs ((history a cs) .1)
+
+  abbrev pub hopsMade : ℕ
+  hopsMade = total hopsBy cs ((history a cs) .1)
+
+  abbrev pub callsRefused : ℕ
+  callsRefused = total refusedBy cs ((history a cs) .1)
+
+-- ---- The devices' turns. A drain does not answer which devices hopped, so turns are read off the run of the line of
+-- devices
+
+-- a local call
+pub data Local : Type 0 where
+  toLoad : List Byte → Local
+  toStatus : Byte → Local
+  toWish : ℕ → Local
+
+abbrev pub calledBy : Local → Device → Called
+calledBy (toLoad bs) d = loads d (numbers bs)
+calledBy (toStatus s) d = setsStatus d (s .value)
+calledBy (toWish w) d = wishes d w
+
+-- what a device is handed, if anything
+abbrev pub handedOver : Handed → Option Got
+handedOver handed.Nothing = none
+handedOver (handed.Byte b e) = some (got b e)
+
+-- the device after a local call that it accepts
+abbrev pub acceptedBy : Called → Option Device
+acceptedBy c = cond (eqb (c .refusal) 0) (some (c .device)) none
+
+-- the line whose devices go by the rules of demand 2
+abbrev pub model : line.Line
+model =
+    record {
+      State = Device;
+      Frame = ℕ;
+      Local = Local;
+      Byte = Got;
+      next = λ d f. takes d f .device;
+      send = λ d f. takes d f .frame;
+      hand = λ d f. handedOver (takes d f .handed);
+      act = λ d c. acceptedBy (calledBy c d);
+      depth = depth;
+      deep = lit< tt;
+    }
+
+-- the call of the line that an action is; a put of what is no frame is none
+abbrev pub calls : Action → List (line.Call model)
+calls (put f) = if (ltb f frames) (line.put f)
+calls (hop i) = line.hop i ∷ []
+calls take = line.take ∷ []
+calls (load i bs) = line.local i (toLoad bs) ∷ []
+calls (status i s) = line.local i (toStatus s) ∷ []
+calls (wish i w) = line.local i (toWish w) ∷ []
+calls (drain b) = line.drain b ∷ []
+
+abbrev pub allCalls : List Action → List (line.Call model)
+allCalls [] = []
+allCalls (c ∷ cs) = calls c ++ allCalls cs
+
+-- the line of an area's devices and links
+abbrev pub lineOf : List ℕ → line.Loop model
+lineOf a = lineUp (loopOf a .links) (loopOf a .devices)
+
+-- the turns of device i: its own hops and the local calls that it accepted, in order
+abbrev pub turnsOf : List ℕ → List Action → ℕ → List (Turn model)
+turnsOf a cs i = turns ((line.run (lineOf a) (allCalls cs)) .1) i
+
+-- ---- Each frame right round before the next
+
+-- a call of the line as an action
+abbrev pub action : line.Call model → Action
+action (line.put f) = put f
+action (line.hop i) = hop i
+action line.take = take
+action (line.local i (toLoad bs)) = load i bs
+action (line.local i (toStatus s)) = status i s
+action (line.local i (toWish w)) = wish i w
+action (line.drain b) = drain b
+
+-- The same frames and the same turns: put; for each device its local calls up to there, then its hop; take; the next
+-- frame; at the end the local calls that are left.
+abbrev pub inTurn : List ℕ → List Action → List Action
+inTurn a cs = map action (rightRound (framesPut a cs) (first (countIn a) (turnsOf a cs)))
