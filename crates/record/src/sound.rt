@@ -9,18 +9,18 @@ ghost use Rattle.record.specs.Sound.{configuredAble, listenerAble, servi
 ghost use Rattle.record.specs.Sound.{dataAble, sentWithin, repliedRight, quietOutside, lastBelow, soundDevice};
 ghost use Rattle.record.specs.Sound.{soundRecord, allowed};
 
-// All bytes from a place on are zero.
+// All bytes from a place on are zero. No turn ends the loop early, so that many bytes are tested at a time.
 fn zero_from(s: &[u8], from: u8) -> bool
     ensures { λ r. ⌜ r ≡ zeros (drop from (now (s .entry))) ⌝ }
 {
-    let mut i = from as usize;
+    let start = from as usize;
+    let mut zero = true;
+    let mut i = 0;
     while i < s.len() {
-        if s[i] != 0 {
-            return false;
-        }
+        zero = zero & ((i < start) | (s[i] == 0));
         i += 1;
     }
-    true
+    zero
 }
 
 fn in_range(d: Device) -> bool
