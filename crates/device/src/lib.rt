@@ -96,7 +96,7 @@ impl Device {
 
     pub const MOST_DATA: usize = 32;
 
-    pub fn has(self, ability: u8) -> bool
+    pub(crate) fn has(self, ability: u8) -> bool
         ensures { λ r. ⌜ r ≡ has self ability ⌝ }
     {
         self.abilities & ability != 0

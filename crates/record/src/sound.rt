@@ -139,7 +139,7 @@ fn last_below(d: Device) -> bool
 }
 
 // A device is sound: all the clauses.
-pub fn device_sound(d: Device) -> bool
+fn device_sound(d: Device) -> bool
     ensures { λ r. ⌜ r ≡ soundDevice d ⌝ }
 {
     in_range(d)

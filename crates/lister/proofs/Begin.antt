@@ -1,0 +1,125 @@
+-- The set-up of line 1: refused but for 1 to 15 devices, and otherwise the same whatever the area held before.
+use Prim.Native.Nat.{ℕ, zero, suc, _+_, _-_, _*_, _/_, _≤_, _<_}
+use mathlib.Core.Path.{_≡_, refl, sym, ap, _∙_}
+use mathlib.Core.List.{List, [], _∷_, _++_, map}
+use mathlib.Core.Bool.{Bool, true, false, _&&_, cond}
+use native.Mathlib.Omega.{arith}
+use lib.Dec.{eqb, leb, lit<}
+use lib.ListN.{length, replicate, length-map, length-replicate}
+use borrow.Author.Tests.{eq-eqb, eqb-true, leb-true, le-leb}
+use Rattle.device.specs.PowerOn.{powerOn}
+use Rattle.record.specs.Fits.{Bytes}
+use Rattle.record.specs.Sound.{allowed}
+use Rattle.record.proofs.Both.{left, right}
+use Rattle.area.specs.Sizes.{mostDevices, itemSize, areaSize}
+use Rattle.area.specs.Parts.{all, parts, join}
+use Rattle.area.specs.Loop.{shape, unsound, areaOf}
+use Rattle.area.proofs.Parts.{length-join, length-parts}
+use Rattle.pil.specs.Outcome.{After, after}
+use Rattle.pil.specs.SetUp.{devicesFor, itemsOf, itemsFit, poweredOn, setUpOf}
+use Rattle.pil.proofs.Powered.{set-up-sound}
+use Rattle.text.specs.Words.{loopWord, begins}
+use Rattle.text.specs.Digits.{numberAt}
+use Rattle.text.specs.Script.{wordSize, devicesIn, groupsIn, groupSize, groupRight, loopRight, itemOf, itemsIn}
+use Rattle.text.proofs.Scripts.{group-digits}
+use Rattle.lister.proofs.Held.{Area}
+
+-- there is an item for each device
+pub items-long : (line : List ℕ) → length (itemsIn line) ≡ itemSize * devicesIn line
+items-long line = length-join itemOf itemSize (λ g. refl) (groupsIn line) ∙
+    ap (λ k. itemSize * k) (length-parts groupSize (devicesIn line) _)
+
+-- the wrong number of devices
+pub set-up-refused : (a items : List ℕ) (n : ℕ) → length items ≡ itemSize * n → ((1 ≤ n) → (n ≤ mostDevices) → ⊥) →
+    setUpOf a items ≡ after shape a
+unfolding setUpOf itemsFit
+set-up-refused a items n e no-fit = go (itemsFit (devicesFor (length a)) a items) refl
+  where
+    go : (t : Bool) → itemsFit (devicesFor (length a)) a items ≡ t →
+        cond t
+        (cond (all allowed (itemsOf (devicesFor (length a)) items))
+        (after 0 (areaOf (poweredOn (devicesFor (length a)) items))) (after unsound a))
+        (after shape a) ≡ after shape a
+    go false p = refl
+    go true p =
+        let m = devicesFor (length a) in
+        let i = eqb (length items) (itemSize * m) in
+        let l = eqb (length a) (areaSize m) in
+        let h1 = right (leb 1 m) (leb m mostDevices && (l && i)) p in
+        let h2 = right l i (right (leb m mostDevices) (l && i) h1) in
+        let some = leb-true 1 m (left (leb 1 m) (leb m mostDevices && (l && i)) p) in
+        let few = leb-true m mostDevices (left (leb m mostDevices) (l && i) h1) in
+        let same = eqb-true (length items) (itemSize * m) h2 in
+        absurd (no-fit (omega arith) (omega arith))
+
+-- the right number
+pub items-fit : (a items : List ℕ) (n : ℕ) → 1 ≤ n → n ≤ mostDevices → length a ≡ areaSize n →
+    length items ≡ itemSize * n → itemsFit n a items ≡ true
+unfolding itemsFit
+items-fit a items n s f l e =
+    rw (le-leb 1 n s, le-leb n mostDevices f, eq-eqb (length a) (areaSize n) l, eq-eqb (length items) (itemSize * n) e)
+
+pub set-up-done : (a items : List ℕ) (n : ℕ) → 1 ≤ n → n ≤ mostDevices → length a ≡ areaSize n →
+    length items ≡ itemSize * n →
+    setUpOf a items ≡ cond (all allowed (itemsOf n items)) (after 0 (areaOf (poweredOn n items))) (after unsound a)
+unfolding setUpOf
+set-up-done a items n s f l e =
+    let m : devicesFor (length a) ≡ n = omega arith in rw (m, items-fit a items n s f l e)
+
+-- what it leaves is a sound loop's area
+pub powered : (items : List ℕ) (n : ℕ) → 1 ≤ n → n ≤ mostDevices → length items ≡ itemSize * n → Bytes items →
+    all allowed (itemsOf n items) ≡ true → Area n (areaOf (poweredOn n items))
+powered items n s f e b h =
+    let a : List ℕ = replicate (areaSize n) 0 in
+    record {
+      loop = poweredOn n items;
+      sound = set-up-sound n a items b (items-fit a items n s f (length-replicate (areaSize n) 0) e) h;
+      is = refl;
+      count = length-map (itemsOf n items) powerOn ∙ length-parts itemSize n items;
+    }
+
+-- ---- the items are bytes
+
+bytes-more : (x : ℕ) (b : List ℕ) → x < 256 → Bytes b → Bytes (x ∷ b)
+bytes-more x b p h zero = p
+bytes-more x b p h (suc i) = h i
+
+two-digits : (g : List ℕ) → groupRight g ≡ true → (numberAt 1 2 g < 256) × (numberAt 3 2 g < 256)
+two-digits g h = let d = group-digits g h in (omega arith, omega arith)
+
+item-bytes : (g b : List ℕ) → groupRight g ≡ true → Bytes b → Bytes (itemOf g ++ b)
+item-bytes g b h s =
+    let d = two-digits g h in
+    bytes-more (numberAt 1 2 g) (numberAt 3 2 g ∷ (replicate 10 0 ++ b)) (d .0)
+    (bytes-more (numberAt 3 2 g) (replicate 10 0 ++ b) (d .1) (zeros 10))
+  where
+    zeros : (k : ℕ) → Bytes (replicate k 0 ++ b)
+    zeros zero = s
+    zeros (suc k) = bytes-more 0 (replicate k 0 ++ b) (omega arith) (zeros k)
+
+groups-bytes : (gs : List (List ℕ)) → all groupRight gs ≡ true → Bytes (join (map itemOf gs))
+unfolding all join
+groups-bytes [] h = λ i. lit< tt
+groups-bytes (g ∷ gs) h =
+    item-bytes g (join (map itemOf gs)) (left (groupRight g) (all groupRight gs) h)
+    (groups-bytes gs (right (groupRight g) (all groupRight gs) h))
+
+-- ---- what a right line 1 says
+
+pub record Line1 (line : List ℕ) : Type 0 where
+  pub long : length line ≡ wordSize + groupSize * devicesIn line
+  pub groups : all groupRight (groupsIn line) ≡ true
+  pub bytes : Bytes (itemsIn line)
+
+pub line1 : (line : List ℕ) → loopRight line ≡ true → Line1 line
+unfolding loopRight
+line1 line h =
+    let w = begins loopWord line in
+    let l = eqb (length line) (wordSize + groupSize * devicesIn line) in
+    let g = all groupRight (groupsIn line) in
+    let hg = right w (l && g) h in
+    record {
+      long = eqb-true (length line) (wordSize + groupSize * devicesIn line) (left l g hg);
+      groups = right l g hg;
+      bytes = groups-bytes (groupsIn line) (right l g hg);
+    }
