@@ -185,7 +185,8 @@ CASES = {
     'bytes_60000': ONE + frames(*([0x7ff] * 10)) + b'0' * (60000 - 10 - 40),
     'bytes_60001': ONE + frames(*([0x7ff] * 10)) + b'0' * (60001 - 10 - 40),
     'listeners': LISTENERS + frames(*range(0x420, 0x42f), 0x041, 0x2ff, 0x141, 0x3ff),
-    'ids_and_status': b'loop 1f05 2f1f\n' + frames(0x445, 0x563, 0x000, 0x560, 0x561, 0x542, 0x000, 0x562, 0x561, 0x0ff, 0x45f),
+    'ids_and_status': b'loop 1f05 2f1f\n' + frames(
+        0x445, 0x563, 0x000, 0x560, 0x561, 0x542, 0x000, 0x562, 0x561, 0x0ff, 0x45f),
     'many_frames': b'loop ff1f 2101 5d02 3f1f 011f\n' + any_frames(1, 300),
 }
 

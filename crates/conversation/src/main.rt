@@ -1,5 +1,5 @@
-// A bench conversation over three devices, after the sequences of 001's section 5.5: power on, addresses assigned, a data
-// transfer that the controller interrupts with NRD and takes up again, and a serial poll.
+// A bench conversation over three devices, after the sequences of 001's section 5.5: power on, addresses assigned, a
+// data transfer that the controller interrupts with NRD and takes up again, and a serial poll.
 use print::decimal;
 use print::hex;
 use print::text;
@@ -84,7 +84,7 @@ fn transfer(area: &mut [u8]) {
     send(area, 0x031);
 }
 
-// NRD in place of the second byte, then the byte held back: ETO. SDA again goes on where it left off, up to END and ETO.
+// NRD in place of the second byte, then the byte held back: ETO. SDA again goes on where it left off, to END and ETO.
 fn interruption(area: &mut [u8]) {
     text(b"interruption\n");
     send(area, 0x542);

@@ -1,4 +1,4 @@
--- The law of specs/Chunks.antt: line 1 sets the loop up as the listing does, and the calls behind it do the lines
+-- The chunks are the listing: line 1 sets the loop up as the listing does, and the calls behind it do the lines
 -- behind it.
 use Prim.Native.Nat.{ℕ, zero, suc, _+_, _≤_, _<_}
 use mathlib.Core.Path.{_≡_, refl, sym, ap, _∙_}
@@ -23,8 +23,10 @@ use Rattle.lister.specs.Lines.{linesOf}
 use Rattle.text.specs.Out.{badLine, longLine}
 use Rattle.text.specs.Script.{devicesIn, loopRight, itemsIn}
 use Rattle.lister.specs.Listing.{longest, framesListed, setUp, setUpListed, scriptListed, listing}
-use Rattle.lister.specs.Chunks.{areaRoom, textRoom, roomy, over, Does, does, lineAt, setUpDoes, firstDoes}
-use Rattle.lister.specs.Chunks.{startDoes, textFrom, nextFrom, ChunksList}
+use Rattle.lister.specs.Chunks.{areaRoom, textRoom, roomy, over, Does, does, lineAt, setUpIn, setUpDoes}
+use Rattle.lister.specs.Chunks.{firstDoes}
+use Rattle.lister.specs.Chunks.{startDoes}
+use Rattle.lister.specs.Laws.{textFrom, nextFrom, ChunksList}
 use Rattle.lister.specs.declared.Next.{Next}
 use Rattle.lister.proofs.Cut.{index-within, lines-cut}
 use Rattle.lister.proofs.Held.{Area, long}
@@ -65,6 +67,10 @@ module _ (input area : List ℕ) (room : ℕ) (lent : areaRoom ≤ length area) 
     abbrev lines : List (List ℕ)
     lines = linesOf (drop (suc (indexOf newline input)) input)
 
+    -- line 1's set-up, refused or not, and the lines behind it
+    abbrev Begun : Type 0
+    Begun = Complete (setUpDoes (areaSize n) line (setUpIn line area) area) (setUpListed (setUp line) lines)
+
     -- where line 1 ends
     end : length line + 1 ≡ suc (indexOf newline input)
     end = let e = length-take-le (indexOf newline input) input (index-within newline input) in omega arith
@@ -90,8 +96,7 @@ module _ (input area : List ℕ) (room : ℕ) (lent : areaRoom ≤ length area) 
       part-long : length (take (areaSize n) area) ≡ areaSize n
       part-long = length-take-le (areaSize n) area (omega arith)
 
-      few : Complete (setUpDoes (areaSize n) line (setUpOf (take (areaSize n) area) (itemsIn line)) area)
-          (setUpListed (setUp line) lines)
+      few : Begun
       few =
           rw (
             set-up-done (take (areaSize n) area) (itemsIn line) n p q part-long (items-long line),
@@ -109,8 +114,7 @@ module _ (input area : List ℕ) (room : ℕ) (lent : areaRoom ≤ length area) 
 
     -- too few devices, or too many
     none : ((1 ≤ n) → (n ≤ mostDevices) → ⊥) →
-        Complete (setUpDoes (areaSize n) line (setUpOf (take (areaSize n) area) (itemsIn line)) area)
-        (setUpListed (setUp line) lines)
+        Begun
     none wrong =
         rw (
           set-up-refused (take (areaSize n) area) (itemsIn line) n (items-long line) wrong,
@@ -118,13 +122,11 @@ module _ (input area : List ℕ) (room : ℕ) (lent : areaRoom ≤ length area) 
         )
         (alone (badLine 1) area)
 
-    any : Complete (setUpDoes (areaSize n) line (setUpOf (take (areaSize n) area) (itemsIn line)) area)
-        (setUpListed (setUp line) lines)
+    any : Begun
     any = go (leb 1 n) (leb n mostDevices) refl refl
       where
         go : (t u : Bool) → leb 1 n ≡ t → leb n mostDevices ≡ u →
-            Complete (setUpDoes (areaSize n) line (setUpOf (take (areaSize n) area) (itemsIn line)) area)
-            (setUpListed (setUp line) lines)
+            Begun
         go true true p q = few (leb-true 1 n p) (leb-true n mostDevices q)
         go true false p q = none (λ s f. let z = leb-false n mostDevices q in omega arith)
         go false u p q = none (λ s f. let z = leb-false 1 n p in omega arith)
@@ -157,6 +159,6 @@ module _ (input area : List ℕ) (room : ℕ) (lent : areaRoom ≤ length area) 
       go true e = alone longLine area
       go false e = script (ltb-false longest (length input) e)
 
-pub chunks-list : ChunksList
+pub all-chunks : ChunksList
 unfolding Complete
-chunks-list input area room lent buffer = all-of-it input area room lent buffer
+all-chunks input area room lent buffer = all-of-it input area room lent buffer

@@ -26,7 +26,8 @@ use Rattle.lister.specs.Round.{roundText, roundArea}
 use Rattle.text.specs.Script.{wordSize, groupSize, devicesIn, loopRight, loopIn, itemOf, itemsIn, frameRight, frameIn}
 use Rattle.text.specs.Write.{Wrote}
 use Rattle.lister.specs.Listing.{longest}
-use Rattle.lister.specs.Chunks.{areaRoom, textRoom, roomy, sizeIn, loopBytes, does, lineAt, setUpIn, SetUp}
+use Rattle.lister.specs.Chunks.{areaRoom, textRoom, roomy, sizeIn, loopBytes, does, lineAt, setUpIn}
+use Rattle.lister.specs.Inner.{SetUp}
 use Rattle.lister.specs.Chunks.{setUpDoes, firstDoes, startDoes, lineDoes, ready, stepDoes, Does, Did}
 use Rattle.lister.specs.declared.Chunk.{Chunk}
 use Rattle.text.specs.declared.FrameLine.{FrameLine}

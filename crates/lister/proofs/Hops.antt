@@ -17,7 +17,9 @@ use Rattle.pil.proofs.Outcomes.{call-done}
 use Rattle.text.specs.Digits.{decimal}
 use Rattle.text.specs.Out.{handLine, frameLine}
 use Rattle.lister.specs.Round.{handed, hopsText, hopsArea, putArea, hoppedArea, roundText, roundArea}
-use Rattle.lister.specs.Chunks.{handSize, frameSize, textRoom, Hopped}
+use Rattle.lister.specs.Chunks.{textRoom}
+use Rattle.lister.specs.Inner.{Hopped}
+use Rattle.text.specs.Out.{handSize, frameSize}
 use Rattle.text.specs.Write.{Wrote}
 use Rattle.text.proofs.Splices.{next, front, long, nothing}
 use Rattle.text.proofs.Numbers.{two-digits}

@@ -1,4 +1,4 @@
--- The laws that the lister's functions rest on; Chunked has the law that the chunks are the listing.
+-- The laws of the lister: what its functions rest on, and, in Laws, what holds of its calls.
 pub mod Cut
 pub mod Held
 pub mod Hops
@@ -6,3 +6,4 @@ pub mod Begin
 pub mod Listed
 pub mod Doing
 pub mod Chunked
+pub mod Laws

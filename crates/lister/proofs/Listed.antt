@@ -21,7 +21,8 @@ use Rattle.text.specs.Script.{frameRight}
 use Rattle.lister.specs.Round.{roundText, roundArea}
 use Rattle.lister.specs.Listing.{longest, framesListed}
 use Rattle.lister.specs.Chunks.{areaRoom, textRoom, roomy, sizeIn, loopBytes, over, does, lineAt, lineDoes, ready}
-use Rattle.lister.specs.Chunks.{stepDoes, textFrom, nextFrom}
+use Rattle.lister.specs.Chunks.{stepDoes}
+use Rattle.lister.specs.Laws.{textFrom, nextFrom}
 use Rattle.lister.specs.declared.Next.{Next}
 use Rattle.lister.proofs.Cut.{index-within, lines-cut}
 use Rattle.lister.proofs.Held.{Area, judged, counted, few, long, round-held}

@@ -8,16 +8,14 @@ use area::LINK_SIZE;
 use area::MOST_DEVICES;
 pub use list::start;
 pub use list::step;
+use text::write::FRAME_SIZE;
+use text::write::HAND_SIZE;
 ghost use mathlib.Core.Path.{_≡_};
 
 // The most bytes of an input.
 pub const LONGEST: usize = 60000;
 
-// Bytes of the longest hand line and of a frame line, of the longest chunk and of the largest area.
-const HAND_SIZE: usize = 13;
-
-const FRAME_SIZE: usize = 8;
-
+// Bytes of the longest chunk, a hand line for each device and a frame line, and of the largest area.
 pub const TEXT_ROOM: usize = HAND_SIZE * MOST_DEVICES + FRAME_SIZE;
 
 pub const AREA_ROOM: usize = HEADER_SIZE

@@ -25,7 +25,8 @@ ghost use Prim.Native.Nat.{_+_, _^_, _≤_, _<_};
 ghost use lib.ListN.{length};
 ghost use Rattle.area.specs.Sizes.{mostDevices, areaSize};
 ghost use Rattle.text.specs.Script.{loopIn};
-ghost use Rattle.lister.specs.Chunks.{areaRoom, textRoom, roomy, ready, SetUp, Did};
+ghost use Rattle.lister.specs.Chunks.{areaRoom, textRoom, roomy, ready, Did};
+ghost use Rattle.lister.specs.Inner.{SetUp};
 ghost use Rattle.lister.specs.Chunks.{firstDoes, startDoes, lineDoes, stepDoes};
 
 // Bytes of the items of as many devices as a loop can have.

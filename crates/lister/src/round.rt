@@ -11,7 +11,9 @@ ghost use Prim.Native.Nat.{_+_, _≤_, _<_};
 ghost use lib.ListN.{length};
 ghost use Rattle.area.specs.Loop.{judgeOf};
 ghost use Rattle.lister.specs.Round.{handed, roundText, roundArea};
-ghost use Rattle.lister.specs.Chunks.{handSize, textRoom, Hopped};
+ghost use Rattle.lister.specs.Chunks.{textRoom};
+ghost use Rattle.lister.specs.Inner.{Hopped};
+ghost use Rattle.text.specs.Out.{handSize};
 ghost use Rattle.text.specs.Write.{Wrote};
 
 // The line of a byte handed to a device, if any was.

@@ -1,6 +1,5 @@
 // Refusals that the calls give of themselves (those of an area, a frame and a device stand in their crates), and the
-// answers
-// that carry a refusal or what a hop did.
+// answers that carry a refusal or what a hop did.
 use crate::DrainAnswer;
 use crate::HopAnswer;
 use crate::TakeAnswer;
@@ -10,19 +9,19 @@ ghost use mathlib.Core.Path.{_≡_};
 ghost use Rattle.pil.specs.Calls.{noTake, noHop, hopAnswer};
 ghost use Rattle.pil.specs.Drain.{noDrain};
 
-pub const NO_DEVICE: u8 = 3;
+pub(crate) const NO_DEVICE: u8 = 3;
 
-pub const EMPTY: u8 = 5;
+pub(crate) const EMPTY: u8 = 5;
 
-pub const FULL: u8 = 6;
+pub(crate) const FULL: u8 = 6;
 
-pub fn no_take(refusal: u8) -> TakeAnswer
+pub(crate) fn no_take(refusal: u8) -> TakeAnswer
     ensures { λ r. ⌜ r ≡ noTake refusal ⌝ }
 {
     TakeAnswer { frame: 0, refusal }
 }
 
-pub fn no_hop(refusal: u8) -> HopAnswer
+pub(crate) fn no_hop(refusal: u8) -> HopAnswer
     ensures { λ r. ⌜ r ≡ noHop refusal ⌝ }
 {
     HopAnswer {
@@ -34,7 +33,7 @@ pub fn no_hop(refusal: u8) -> HopAnswer
     }
 }
 
-pub fn no_drain(refusal: u8) -> DrainAnswer
+pub(crate) fn no_drain(refusal: u8) -> DrainAnswer
     ensures { λ r. ⌜ r ≡ noDrain refusal ⌝ }
 {
     DrainAnswer {
@@ -48,7 +47,7 @@ pub fn no_drain(refusal: u8) -> DrainAnswer
 }
 
 // What a hop sent, and the byte handed, if any.
-pub fn hop_answer(sent: Sent) -> HopAnswer
+pub(crate) fn hop_answer(sent: Sent) -> HopAnswer
     ensures { λ r. ⌜ r ≡ hopAnswer (sent .frame) (sent .handed) ⌝ }
 {
     let frame = sent.frame;

@@ -1,6 +1,6 @@
 // The calls over a lent area, exported to C (01, The calls): numbers and bytes in, a refusal or an answer out.
 // A refusal carries its number and otherwise zeros; 0 is no refusal.
-pub mod answers;
+mod answers;
 pub mod coding;
 pub mod drain;
 pub mod hop;

@@ -12,17 +12,19 @@ use Rattle.area.specs.Parts.{parts, join, all}
 use Rattle.area.proofs.Parts.{rest-is}
 use Rattle.text.specs.Script.{groupSize, groupRight, itemOf}
 use Rattle.text.specs.Write.{Wrote}
-use Rattle.text.proofs.Splices.{front, long}
+use Rattle.text.proofs.Splices.{next, long}
 
 abbrev items : ℕ → List ℕ → List ℕ
 items n groups = join (map itemOf (parts groupSize n groups))
 
--- the groups that are left are right, and the items of those before them stand before the place
+-- the groups that are left are right, and the items of those before them, `done`, are written up to the place
 pub record Filling (n : ℕ) (groups into : List ℕ) (k : ℕ) (rest : List ℕ) (at : ℕ) (now : List ℕ) : Type 0 where
+  pub done : List ℕ
   pub enough : groupSize * k ≤ length rest
   pub sound : all groupRight (parts groupSize k rest) ≡ true
   pub place : at + itemSize * k ≡ itemSize * n
-  pub same : join (map itemOf (parts groupSize n groups)) ≡ take at now ++ join (map itemOf (parts groupSize k rest))
+  pub same : join (map itemOf (parts groupSize n groups)) ≡ done ++ join (map itemOf (parts groupSize k rest))
+  pub wrote : Wrote done 0 into at now
   pub size : length now ≡ length into
 
 module _ (n : ℕ) (groups into : List ℕ) where
@@ -33,30 +35,32 @@ module _ (n : ℕ) (groups into : List ℕ) where
   first (suc k) rest at now h i = left (groupRight (take groupSize rest))
       (all groupRight (parts groupSize k (drop groupSize rest))) (h .sound)
 
-  pub fill : (k : ℕ) (rest : List ℕ) (at : ℕ) (now next : List ℕ) (r : ℕ) → itemSize * n ≤ length into →
+  pub fill : (k : ℕ) (rest : List ℕ) (at : ℕ) (now now′ : List ℕ) (r : ℕ) → itemSize * n ≤ length into →
       Filling n groups into k rest at now → 0 < k →
-      Wrote (itemOf (take groupSize rest)) at now r next →
-      Filling n groups into (k - 1) (take (length rest - groupSize) (drop groupSize rest)) r next
+      Wrote (itemOf (take groupSize rest)) at now r now′ →
+      Filling n groups into (k - 1) (take (length rest - groupSize) (drop groupSize rest)) r now′
   unfolding all parts join
-  fill zero rest at now next r b h i w = absurd (not-suc-le-zero i)
-  fill (suc k) rest at now next r b h i w =
+  fill zero rest at now now′ r b h i w = absurd (not-suc-le-zero i)
+  fill (suc k) rest at now now′ r b h i w =
       let m : suc k - 1 ≡ k = omega arith in
       let p = h .place in
       let s = h .size in
       rw (rest-is groupSize rest, m)
       (record {
+        done = h .done ++ itemOf (take groupSize rest);
         enough = simp length-drop (omega (arith, h .enough));
         sound = right (groupRight (take groupSize rest)) (all groupRight (parts groupSize k (drop groupSize rest)))
             (h .sound);
         place = omega (arith, w .behind);
-        same = h .same ∙ rw (front (omega arith) w) (sym (append-assoc (take at now) (itemOf (take groupSize rest)) _));
+        same = h .same ∙ sym (append-assoc (h .done) (itemOf (take groupSize rest)) _);
+        wrote = next (omega arith) (h .wrote) w;
         size = long (omega arith) w ∙ h .size;
       })
 
   pub filled : (k : ℕ) (rest : List ℕ) (at : ℕ) (now : List ℕ) → Filling n groups into k rest at now → k ≤ 0 →
-      take (itemSize * n) now ≡ join (map itemOf (parts groupSize n groups))
+      Wrote (join (map itemOf (parts groupSize n groups))) 0 into (itemSize * n) now
   unfolding all parts join
   filled zero rest at now h i =
       let e : at ≡ itemSize * n = omega (arith, h .place) in
-      rw (← e) (sym (h .same ∙ append-nil (take at now)))
+      rw (← e, h .same ∙ append-nil (h .done)) (h .wrote)
   filled (suc k) rest at now h i = absurd (not-suc-le-zero i)

@@ -4,6 +4,16 @@ use mathlib.Core.List.{List, [], _∷_, _++_}
 use Rattle.text.specs.Words.{newline, space, handWord, badWord, longWord}
 use Rattle.text.specs.Digits.{hex, decimal}
 
+-- bytes of the longest hand line, of a frame line and of the longest bad line
+abbrev pub handSize : ℕ
+handSize = 13
+
+abbrev pub frameSize : ℕ
+frameSize = 8
+
+abbrev pub badSize : ℕ
+badSize = 10
+
 -- a byte handed: the device, the byte and the end bit
 abbrev pub handLine : ℕ → ℕ → ℕ → List ℕ
 handLine device byte end =

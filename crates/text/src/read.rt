@@ -6,31 +6,29 @@ use area::ITEM_SIZE;
 use area::MOST_DEVICES;
 ghost use mathlib.Core.Path.{_≡_};
 ghost use mathlib.Core.Bool.{true};
-ghost use mathlib.Core.List.{map, _++_};
-ghost use Prim.Native.Nat.{_+_, _*_, _≤_, _<_};
-ghost use lib.ListN.{length, take};
+ghost use mathlib.Core.List.{map};
+ghost use Prim.Native.Nat.{_*_, _≤_};
+ghost use lib.ListN.{length};
 ghost use Rattle.area.specs.Sizes.{itemSize};
 ghost use Rattle.area.specs.Parts.{parts, join, all};
 ghost use Rattle.text.specs.Words.{begins as Words·begins};
 ghost use Rattle.text.specs.Digits.{digitOf};
 ghost use Rattle.text.specs.Script.{groupSize, groupRight, itemOf, loopIn, frameIn};
+ghost use Rattle.text.specs.Write.{Wrote};
 
 // Bytes of line 1 before the devices, and of each device.
 pub const WORD_SIZE: usize = 4;
 
 const GROUP_SIZE: usize = 5;
 
-// Frames are below this.
-const FRAMES: u32 = 2048;
-
 // The digit of a character; 16 where it is none.
 fn digit(b: u8) -> u8
     ensures { λ r. ⌜ r ≡ digitOf b ⌝ }
 {
-    if (48 <= b) & (b <= 57) {
-        return b - 48;
+    if (b'0' <= b) & (b <= b'9') {
+        return b - b'0';
     }
-    if (97 <= b) & (b <= 102) {
+    if (b'a' <= b) & (b <= b'f') {
         return b - 87;
     }
     16
@@ -43,12 +41,13 @@ pub fn frame_in(line: &[u8]) -> FrameLine
     if line.len() != 3 {
         return FrameLine::Wrong;
     }
-    let a = digit(line[0]) as u32;
-    let b = digit(line[1]) as u32;
-    let c = digit(line[2]) as u32;
+    let a = digit(line[0]) as usize;
+    let b = digit(line[1]) as usize;
+    let c = digit(line[2]) as usize;
     let frame = 16 * (16 * a + b) + c;
-    if (a < 16) & ((b < 16) & ((c < 16) & (frame < FRAMES))) {
-        return FrameLine::Frame(frame as u16);
+    if (a < 16) & ((b < 16) & ((c < 16) & (frame < frame::FRAMES))) {
+        let number = frame as u16;
+        return FrameLine::Frame(number);
     }
     FrameLine::Wrong
 }
@@ -116,7 +115,7 @@ pub fn loop_in(line: &[u8]) -> LoopLine
 }
 
 // A device's set-up item.
-fn item_of(g: &[u8]) -> [u8; 12]
+fn item_of(g: &[u8]) -> [u8; ITEM_SIZE]
     requires { ⌜ (length (now g) ≡ groupSize) × (groupRight (now g) ≡ true) ⌝ }
     ensures { λ r. ⌜ r ≡ itemOf (now (g .entry)) ⌝ }
 {
@@ -125,12 +124,12 @@ fn item_of(g: &[u8]) -> [u8; 12]
     [abilities, fixed, 0, 0, 0, 0, 0, 0, 0, 0, 0, 0]
 }
 
-// The set-up items of n devices.
+// The set-up items of n devices, at the front of a lent buffer.
 pub fn items_in(groups: &[u8], n: usize, items: &mut [u8])
     requires { ⌜ (groupSize * n ≤ length (now groups)) × (itemSize * n ≤ length (now items))
         × (all groupRight (parts groupSize n (now groups)) ≡ true) ⌝ }
-    ensures { λ _. ⌜ take (itemSize * n) (now (items .exit))
-        ≡ join (map itemOf (parts groupSize n (now (groups .entry)))) ⌝ }
+    ensures { λ _. ⌜ Wrote (join (map itemOf (parts groupSize n (now (groups .entry)))))
+        0 (now (items .entry)) (itemSize * n) (now (items .exit)) ⌝ }
 {
     let mut rest = &groups[..];
     let mut left = n;

@@ -3,8 +3,13 @@ ghost use mathlib.Core.Path.{_≡_};
 ghost use Prim.Native.Nat.{_+_, _%_, _≤_, _<_};
 ghost use lib.ListN.{length};
 ghost use Rattle.text.specs.Digits.{charOf, decimal as Digits·decimal};
-ghost use Rattle.text.specs.Out.{handLine, frameLine, badLine};
+ghost use Rattle.text.specs.Out.{handSize, frameSize, badSize, handLine, frameLine, badLine};
 ghost use Rattle.text.specs.Write.{Wrote};
+
+// Bytes of the longest hand line and of a frame line.
+pub const HAND_SIZE: usize = 13;
+
+pub const FRAME_SIZE: usize = 8;
 
 // A text as it is.
 pub fn put(out: &mut [u8], at: usize, text: &[u8]) -> usize
@@ -38,7 +43,7 @@ fn decimal(out: &mut [u8], at: usize, n: usize) -> usize
 
 // "hand", the device, the byte and the end bit.
 pub fn hand_line(out: &mut [u8], at: usize, device: usize, byte: u8, end: u8) -> usize
-    requires { ⌜ (device < 100) × (at + 13 ≤ length (now out)) ⌝ }
+    requires { ⌜ (device < 100) × (at + handSize ≤ length (now out)) ⌝ }
     ensures { λ r. ⌜ Wrote (handLine device byte end) at (now (out .entry)) r (now (out .exit)) ⌝ }
 {
     let b = byte as u16;
@@ -57,7 +62,7 @@ pub fn hand_line(out: &mut [u8], at: usize, device: usize, byte: u8, end: u8) ->
 
 // The frame put and the frame out.
 pub fn frame_line(out: &mut [u8], at: usize, sent: u16, got: u16) -> usize
-    requires { ⌜ at + 8 ≤ length (now out) ⌝ }
+    requires { ⌜ at + frameSize ≤ length (now out) ⌝ }
     ensures { λ r. ⌜ Wrote (frameLine sent got) at (now (out .entry)) r (now (out .exit)) ⌝ }
 {
     let line = [
@@ -75,7 +80,7 @@ pub fn frame_line(out: &mut [u8], at: usize, sent: u16, got: u16) -> usize
 
 // "bad" and the number of a line.
 pub fn bad_line(out: &mut [u8], number: usize) -> usize
-    requires { ⌜ (number < 100000) × (10 ≤ length (now out)) ⌝ }
+    requires { ⌜ (number < 100000) × (badSize ≤ length (now out)) ⌝ }
     ensures { λ r. ⌜ Wrote (badLine number) 0 (now (out .entry)) r (now (out .exit)) ⌝ }
 {
     let word = put(out, 0, b"bad ");

@@ -7,6 +7,7 @@ use lib.Seq.{length-take-le}
 use borrow.Author.Needs.{needs}
 use Rattle.area.proofs.Parts.{rest-is}
 use Rattle.text.specs.Script.{wordSize}
+use Rattle.text.proofs.Splices.{front}
 use Rattle.lister.proofs.Begin.{Line1, line1}
 use Rattle.lister.proofs.Doing.{Devices, devices, set-up-told}
 use Rattle.lister.proofs.list.set_up.Statement.{statement}
@@ -63,7 +64,7 @@ returns c =
     let i = a .before .before in
     let s = i .before .before .before .before .before in
     set-up-told (s .args .line .now) (i .items-in .last .1 .1 .0) (told s) (a .area-size .ensures)
-    (i .items-in .ensures) (p .pil-set-up .ensures)
+    (front (omega arith) (i .items-in .ensures)) (p .pil-set-up .ensures)
 
 pub set-up-spec : {M : Type 1} → statement M
 set-up-spec =

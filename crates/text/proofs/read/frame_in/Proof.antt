@@ -10,8 +10,8 @@ use Rattle.text.proofs.read.frame_in.Tie as tie
 returns : tie.Need-returns
 returns c = sym (frame-long (c .before .before .args .line .now) (c .if1 .taken))
 
-cast-t22 : tie.Need-cast-t22
-cast-t22 c =
+cast-number : tie.Need-cast-number
+cast-number c =
     let d3 = c .before in
     let d2 = d3 .before .before in
     let d1 = d2 .before .before in
@@ -55,6 +55,6 @@ frame-in-spec =
     (λ c. search needs)
     (λ c. search needs)
     (λ c. search needs)
-    cast-t22
+    cast-number
     returns-2
     returns-3)

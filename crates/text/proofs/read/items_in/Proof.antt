@@ -1,5 +1,6 @@
 -- Item by item: what is written and the items of the groups that are left are all of them.
 use mathlib.Core.Path.{refl, sym, ap}
+use mathlib.Core.List.{[]}
 use native.Mathlib.Omega.{arith}
 use lib.ListN.{length}
 use lib.Seq.{length-take-le}
@@ -7,6 +8,7 @@ use borrow.Author.Needs.{needs}
 use Rattle.area.specs.Sizes.{itemSize}
 use Rattle.text.specs.Script.{groupSize}
 use Rattle.text.proofs.Items.{Filling, first, fill, filled}
+use Rattle.text.proofs.Splices.{nothing}
 use Rattle.text.proofs.read.items_in.Statement.{statement}
 use Rattle.text.proofs.read.items_in.Tie as tie
 
@@ -19,7 +21,15 @@ abbrev μ-loop : tie.MeasureT-loop
 loop-holds : tie.Need-loop-holds Inv-loop μ-loop
 loop-holds c =
     let s = c .before .before in
-    record { enough = s .pre .0; sound = s .pre .2; place = omega arith; same = refl; size = refl }
+    record {
+      done = [];
+      enough = s .pre .0;
+      sound = s .pre .2;
+      place = omega arith;
+      same = refl;
+      wrote = nothing _ 0;
+      size = refl;
+    }
 
 slice-aggregate-item-of : tie.Need-slice-aggregate-item-of Inv-loop μ-loop
 slice-aggregate-item-of c =
