@@ -1,8 +1,11 @@
-// The lent area of a loop (01, The lent area): judged in one pass, looked into and changed in the loop's terms.
+// The lent area of a loop (01, The lent area): looked into and changed in the loop's terms.
 pub mod change;
-pub mod judge;
 mod link;
 pub mod lookup;
+
+ghost use mathlib.Core.Path.{_≡_};
+ghost use Prim.Native.Nat.{_<_};
+ghost use Rattle.area.specs.Sizes.{areaSize};
 
 // Bytes before the first record, of a link and of a set-up item.
 pub const HEADER_SIZE: usize = 8;
@@ -37,4 +40,12 @@ pub enum Room {
 pub enum Place {
     At(usize),
     NoDevice,
+}
+
+// Bytes of an area of n devices.
+pub fn area_size(n: usize) -> usize
+    requires { ⌜ n < 256 ⌝ }
+    ensures { λ r. ⌜ r ≡ areaSize n ⌝ }
+{
+    HEADER_SIZE + record::SIZE * n + LINK_SIZE * (n + 1)
 }

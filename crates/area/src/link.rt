@@ -1,4 +1,4 @@
-// A link's ten bytes: whether they are sound, its oldest frame, its room, a frame less and a frame more.
+// A link's ten bytes: its oldest frame, its room, a frame less and a frame more.
 use crate::DEPTH;
 use crate::Oldest;
 use crate::Room;
@@ -7,32 +7,8 @@ ghost use mathlib.Core.List.{_∷_, [], tail, _++_};
 ghost use Prim.Native.Nat.{_<_};
 ghost use lib.ListN.{length};
 ghost use Rattle.area.specs.Sizes.{linkSize};
-ghost use Rattle.area.specs.Link.{framesOf, linkOf, soundSlot, soundLink, IsLink};
+ghost use Rattle.area.specs.Link.{framesOf, linkOf, IsLink};
 ghost use Rattle.area.specs.Lookup.{oldestOf, roomOf};
-
-// Whether the k-th number of a link that holds n frames is a frame, or else 0.
-fn slot_sound(n: u8, k: u8, f: u16) -> bool
-    ensures { λ r. ⌜ r ≡ soundSlot n k f ⌝ }
-{
-    if k < n {
-        f < frame::FRAMES as u16
-    } else {
-        f == 0
-    }
-}
-
-pub fn link_sound(link: &[u8]) -> bool
-    requires { ⌜ length (now link) ≡ linkSize ⌝ }
-    ensures { λ r. ⌜ r ≡ soundLink (now (link .entry)) ⌝ }
-{
-    let n = link[0];
-    (n <= DEPTH as u8)
-        & ((link[1] == 0)
-            & (slot_sound(n, 0, record::word_at(link, 2))
-                & (slot_sound(n, 1, record::word_at(link, 4))
-                    & (slot_sound(n, 2, record::word_at(link, 6))
-                        & slot_sound(n, 3, record::word_at(link, 8))))))
-}
 
 pub fn oldest_in(link: &[u8]) -> Oldest
     requires { ⌜ length (now link) ≡ linkSize ⌝ }

@@ -47,7 +47,7 @@ const ITEMS: [u8; 36] = [
 fn main() {
     let mut area = [0u8; 240];
     let items = ITEMS;
-    pil::set_up::pil_set_up(&mut area, &items);
+    pil::pil_set_up(&mut area, &items);
     power_on(&mut area);
     addresses(&mut area);
     transfer(&mut area);
@@ -73,7 +73,7 @@ fn addresses(area: &mut [u8]) {
 // UNL, LAD 2, TAD 1, SDA: the meter replaces SDA by its first byte, which the printer is handed.
 fn transfer(area: &mut [u8]) {
     text(b"data transfer\n");
-    pil::local::pil_load(area, 0, b"1.5");
+    pil::pil_load(area, 0, b"1.5");
     send(area, 0x43f);
     send(area, 0x500);
     send(area, 0x422);
@@ -96,8 +96,8 @@ fn interruption(area: &mut [u8]) {
 // The second meter wants service: IDY comes back with C1. TAD and SST for each device.
 fn poll(area: &mut [u8]) {
     text(b"serial poll\n");
-    pil::local::pil_status(area, 2, 0x40);
-    pil::local::pil_wish(area, 2, 1);
+    pil::pil_status(area, 2, 0x40);
+    pil::pil_wish(area, 2, 1);
     send(area, 0x600);
     send(area, 0x43f);
     send(area, 0x500);
@@ -132,11 +132,11 @@ fn poll_third(area: &mut [u8]) {
 
 // A frame right round: a line for each byte handed, then the frame put and the frame out.
 fn send(area: &mut [u8], frame: u64) {
-    pil::put::pil_put(area, frame);
+    pil::pil_put(area, frame);
     hop(area, 0);
     hop(area, 1);
     hop(area, 2);
-    let taken = pil::take::pil_take(area);
+    let taken = pil::pil_take(area);
     hex(frame);
     text(b" ");
     hex(taken.frame as u64);
@@ -144,7 +144,7 @@ fn send(area: &mut [u8], frame: u64) {
 }
 
 fn hop(area: &mut [u8], device: u64) {
-    let hopped = pil::hop::pil_hop(area, device);
+    let hopped = pil::pil_hop(area, device);
     if hopped.handed == 1 {
         text(b"device ");
         decimal(device);

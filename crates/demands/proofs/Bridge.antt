@@ -15,17 +15,17 @@ use Rattle.device.specs.Take.{takes}
 use Rattle.device.specs.declared.Device.{Device}
 use Rattle.device.specs.declared.Handed.{Handed}
 use Rattle.device.specs.declared.Handed.the-variants as handed
-use Rattle.device.specs.declared.Called.{Called}
+use Rattle.local.specs.declared.Called.{Called}
 use Rattle.record.specs.Record.{deviceOf}
 use Rattle.area.specs.Sizes.{depth}
 use Rattle.area.specs.Loop.{Loop, size, device, link}
 use Rattle.area.specs.Lookup.{oldestOf, setDevice, setLink, add, remove}
 use Rattle.area.specs.declared.Oldest.{Oldest}
-use Rattle.pil.specs.Outcome.{Outcome, refuse, done}
-use Rattle.pil.specs.Calls.{noHop, noTake, hopAnswer, hasRoom, sentBy, passed, putIn, takeFrom, takeIn, hopFrom, hopIn}
-use Rattle.pil.specs.Calls.{calledIn, localIn}
-use Rattle.pil.specs.declared.HopAnswer.{HopAnswer}
-use Rattle.pil.specs.declared.TakeAnswer.{TakeAnswer}
+use Rattle.calls.specs.Outcome.{Outcome, refuse, done}
+use Rattle.calls.specs.Calls.{noHop, noTake, hopAnswer, hasRoom, sentBy, passed, putIn, takeFrom, takeIn, hopFrom, hopIn}
+use Rattle.calls.specs.Calls.{calledIn, localIn}
+use Rattle.calls.specs.declared.HopAnswer.{HopAnswer}
+use Rattle.calls.specs.declared.TakeAnswer.{TakeAnswer}
 use Rattle.order.specs.Line as line
 use Rattle.order.specs.Flat as flat
 use Rattle.order.specs.Flat.{Flat, linksOf, statesOf, putFlat, hopFrom as hopFromFlat, hopFlat}

@@ -11,12 +11,12 @@ use Rattle.area.specs.Loop.{Loop, size, link}
 use Rattle.area.specs.Lookup.{oldestOf}
 use Rattle.area.specs.declared.Oldest.{Oldest}
 use Rattle.area.specs.declared.Place.{Place}
-use Rattle.pil.specs.Outcome.{Outcome, refuse, done}
-use Rattle.pil.specs.Calls.{hopIn}
-use Rattle.pil.specs.Drain.{noHopLeft, budgetSpent, byteHanded, canFrom, canHop, highest, stopped, handedTo, turned}
-use Rattle.pil.specs.Drain.{onPlace, drainFrom}
-use Rattle.pil.specs.declared.HopAnswer.{HopAnswer}
-use Rattle.pil.specs.declared.DrainAnswer.{DrainAnswer}
+use Rattle.calls.specs.Outcome.{Outcome, refuse, done}
+use Rattle.calls.specs.Calls.{hopIn}
+use Rattle.calls.specs.Drain.{noHopLeft, budgetSpent, byteHanded, canFrom, canHop, highest, stopped, handedTo, turned}
+use Rattle.calls.specs.Drain.{onPlace, drainFrom}
+use Rattle.calls.specs.declared.HopAnswer.{HopAnswer}
+use Rattle.calls.specs.declared.DrainAnswer.{DrainAnswer}
 use Rattle.order.specs.Line as line
 use Rattle.order.specs.Flat as flat
 use Rattle.order.specs.Flat.{Flat, hopFlat}

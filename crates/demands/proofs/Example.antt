@@ -8,15 +8,15 @@ use Rattle.device.specs.Reply.{marked}
 use Rattle.device.specs.Ready.{requested, polls, sst, nrd, aad}
 use Rattle.device.specs.Data.{returned, heard, dataOrEnd}
 use Rattle.device.specs.Take.{takes}
-use Rattle.device.specs.Local.{loads}
+use Rattle.local.specs.Local.{loads}
 use Rattle.record.specs.Record.{deviceOf, recordOf, zeros}
 use Rattle.record.specs.Sound.{soundDevice, soundRecord, allowed}
 use Rattle.area.specs.Parts.{parts, join, all}
 use Rattle.area.specs.Link.{framesOf, linkOf, soundSlot, soundLink}
 use Rattle.area.specs.Loop.{loopOf, areaOf, shaped, sound, judgeOf}
-use Rattle.pil.specs.Outcome.{callOf}
-use Rattle.pil.specs.Calls.{putIn, takeIn, hopIn, localIn}
-use Rattle.pil.specs.SetUp.{itemsFit, setUpOf}
+use Rattle.calls.specs.Outcome.{callOf}
+use Rattle.calls.specs.Calls.{putIn, takeIn, hopIn, localIn}
+use Rattle.calls.specs.SetUp.{itemsFit, setUpOf}
 use Rattle.demands.specs.Example.{Example}
 
 pub example : Example

@@ -9,15 +9,15 @@ use lib.Dec.{eqb, ltb, leb}
 use borrow.Author.Tests.{eqb-true, eqb-false, ltb-true, ltb-false, leb-true, le-leb, lt-leb, eq-eqb, ne-eqb}
 use Rattle.frame.specs.Messages.{frames, kindAt, codesOf, firstOf}
 use Rattle.frame.specs.Coding.{decoding, decodeOf, encoding, encodeOf}
-use Rattle.device.specs.Local.{loads, setsStatus, wishes}
+use Rattle.local.specs.Local.{loads, setsStatus, wishes}
 use Rattle.record.specs.Sound.{allowed}
 use Rattle.area.specs.Sizes.{areaSize, mostDevices, itemSize}
 use Rattle.area.specs.Parts.{parts, all}
 use Rattle.area.specs.Loop.{countIn, loopOf, areaOf, shaped, sound, device, link}
-use Rattle.pil.specs.Outcome.{After, after}
-use Rattle.pil.specs.Calls.{noTake, noHop, refusal, putIn, takeIn, hopIn, localIn}
-use Rattle.pil.specs.Drain.{noDrain, drainIn}
-use Rattle.pil.specs.SetUp.{devicesFor, itemsFit, poweredOn, setUpOf}
+use Rattle.calls.specs.Outcome.{After, after}
+use Rattle.calls.specs.Calls.{noTake, noHop, refusal, putIn, takeIn, hopIn, localIn}
+use Rattle.calls.specs.Drain.{noDrain, drainIn}
+use Rattle.calls.specs.SetUp.{devicesFor, itemsFit, poweredOn, setUpOf}
 use Rattle.demands.specs.Calls.{Byte, numbers, Action, put, hop, take, load, status, wish, drain, Call, does}
 use Rattle.demands.specs.Calls.{setUp, decode, encode, Answer, plain, hopped, taken, drained, decoded, encoded}
 use Rattle.demands.specs.Calls.{pil, refusalIn, bare, bareAction, acts}

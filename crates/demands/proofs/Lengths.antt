@@ -12,7 +12,7 @@ use Rattle.record.specs.Sound.{allowed}
 use Rattle.area.specs.Sizes.{areaSize, mostDevices, itemSize}
 use Rattle.area.specs.Parts.{parts, all}
 use Rattle.area.specs.Loop.{countIn, shaped}
-use Rattle.pil.specs.SetUp.{devicesFor, itemsFit}
+use Rattle.calls.specs.SetUp.{devicesFor, itemsFit}
 use Rattle.demands.specs.Conditions.{devicesUpTo, devicesAt}
 
 -- what is found is right

@@ -12,7 +12,7 @@ use Rattle.area.specs.Sizes.{depth}
 use Rattle.area.specs.Loop.{Loop, countIn, size, loopOf, areaOf, shaped, sound, judgeOf, device, link}
 use Rattle.area.specs.Lookup.{oldestOf}
 use Rattle.area.specs.declared.Oldest.{Oldest}
-use Rattle.pil.specs.Outcome.{Outcome, refuse, done, After, after, afterOf, callOf}
+use Rattle.calls.specs.Outcome.{Outcome, refuse, done, After, after, afterOf, callOf}
 
 -- what an outcome tells of its refusal: a refusal is no 0, and what is done answers 0
 pub data Told (A : Type 0) (get : A → ℕ) : Outcome A → ℕ → Type 0 where

@@ -9,16 +9,16 @@ use lib.Dec.{eqb, ltb}
 use lib.ListN.{getD}
 use borrow.Author.Tests.{lt-ltb, ltb-true}
 use Rattle.frame.specs.Messages.{frames}
-use Rattle.device.specs.Local.{loads, setsStatus, wishes}
+use Rattle.local.specs.Local.{loads, setsStatus, wishes}
 use Rattle.device.specs.declared.Device.{Device}
 use Rattle.record.specs.Fits.{Bytes}
 use Rattle.area.specs.Loop.{Loop, loopOf, areaOf, Sound-loop}
 use Rattle.area.proofs.Laws.{loop-back}
-use Rattle.pil.specs.Outcome.{Outcome, refuse, done, loopAfter}
-use Rattle.pil.specs.Calls.{noHop, noTake, refusal, putIn, takeIn, hopIn, localIn}
-use Rattle.pil.specs.Drain.{noDrain, drainIn}
-use Rattle.pil.proofs.Kept.{put-keeps, take-keeps, hop-keeps, drain-keeps}
-use Rattle.pil.proofs.Laws.{load-keeps, status-keeps, wish-keeps}
+use Rattle.calls.specs.Outcome.{Outcome, refuse, done, loopAfter}
+use Rattle.calls.specs.Calls.{noHop, noTake, refusal, putIn, takeIn, hopIn, localIn}
+use Rattle.calls.specs.Drain.{noDrain, drainIn}
+use Rattle.calls.proofs.Kept.{put-keeps, take-keeps, hop-keeps, drain-keeps}
+use Rattle.calls.proofs.Laws.{load-keeps, status-keeps, wish-keeps}
 use Rattle.order.specs.Line as line
 use Rattle.order.specs.Flat as flat
 use Rattle.order.specs.History as told

@@ -23,9 +23,9 @@ use Rattle.area.proofs.Parts.{splice}
 use Rattle.area.proofs.Links.{link-wide}
 use Rattle.area.proofs.Areas.{device-put, link-put}
 use Rattle.area.proofs.Laws.{area-back, loop-sound}
-use Rattle.pil.specs.Outcome.{done, After, after, callOf}
-use Rattle.pil.specs.Calls.{noHop, hopAnswer, sentBy, passed, hopFrom, hopIn, hopOf}
-use Rattle.pil.specs.declared.HopAnswer.{HopAnswer}
+use Rattle.calls.specs.Outcome.{done, After, after, callOf}
+use Rattle.calls.specs.Calls.{noHop, hopAnswer, sentBy, passed, hopFrom, hopIn, hopOf}
+use Rattle.calls.specs.declared.HopAnswer.{HopAnswer}
 use Rattle.demands.specs.Calls.{hopped, acts}
 use Rattle.demands.specs.Demands.{with, recordTaken, linkLess, hopLeaves, Obeys, Demand2}
 use Rattle.demands.proofs.Tests.{size-is}

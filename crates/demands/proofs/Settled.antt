@@ -9,15 +9,15 @@ use native.Mathlib.Omega.{arith}
 use lib.Dec.{eqb, ltb}
 use borrow.Author.Tests.{eq-eqb, ne-eqb, ltb-true, eqb-true, eqb-false}
 use Rattle.frame.specs.Messages.{frames}
-use Rattle.device.specs.Local.{loads, setsStatus, wishes}
+use Rattle.local.specs.Local.{loads, setsStatus, wishes}
 use Rattle.area.specs.Loop.{Loop, loopOf, areaOf, judgeOf, Sound-loop}
 use Rattle.area.proofs.Laws.{loop-back, area-sound}
-use Rattle.pil.specs.Outcome.{Outcome, refuse, done, After, after, afterOf, callOf}
-use Rattle.pil.specs.Calls.{refusal, noHop, noTake, putIn, takeIn, hopIn, localIn}
-use Rattle.pil.specs.Drain.{noDrain, drainIn}
-use Rattle.pil.specs.declared.HopAnswer.{HopAnswer}
-use Rattle.pil.specs.declared.TakeAnswer.{TakeAnswer}
-use Rattle.pil.specs.declared.DrainAnswer.{DrainAnswer}
+use Rattle.calls.specs.Outcome.{Outcome, refuse, done, After, after, afterOf, callOf}
+use Rattle.calls.specs.Calls.{refusal, noHop, noTake, putIn, takeIn, hopIn, localIn}
+use Rattle.calls.specs.Drain.{noDrain, drainIn}
+use Rattle.calls.specs.declared.HopAnswer.{HopAnswer}
+use Rattle.calls.specs.declared.TakeAnswer.{TakeAnswer}
+use Rattle.calls.specs.declared.DrainAnswer.{DrainAnswer}
 use Rattle.order.specs.Line as line
 use Rattle.order.specs.Flat as flat
 use Rattle.order.specs.History as told

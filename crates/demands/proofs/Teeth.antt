@@ -11,8 +11,8 @@ use Rattle.record.specs.Sound.{soundDevice, soundRecord}
 use Rattle.area.specs.Parts.{parts, join, all}
 use Rattle.area.specs.Link.{framesOf, linkOf, soundSlot, soundLink}
 use Rattle.area.specs.Loop.{loopOf, areaOf, shaped, sound, judgeOf}
-use Rattle.pil.specs.Outcome.{callOf}
-use Rattle.pil.specs.Calls.{hopIn}
+use Rattle.calls.specs.Outcome.{callOf}
+use Rattle.calls.specs.Calls.{hopIn}
 use Rattle.demands.specs.Calls.{decode}
 use Rattle.demands.specs.Teeth.{RefuserShutOut, LowestGiven, SomeFrameChanges}
 use mathlib.Core.List.{[]}

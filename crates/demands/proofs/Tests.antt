@@ -11,9 +11,9 @@ use Rattle.frame.specs.Messages.{frames}
 use Rattle.device.specs.Choose.{choose}
 use Rattle.device.specs.Device.{has}
 use Rattle.device.specs.Change.{loading}
-use Rattle.device.specs.Local.{refused, accepted, loads, setsStatus, wishes}
+use Rattle.local.specs.Local.{refused, accepted, loads, setsStatus, wishes}
 use Rattle.device.specs.declared.Device.{Device}
-use Rattle.device.specs.declared.Called.{Called}
+use Rattle.local.specs.declared.Called.{Called}
 use Rattle.device.specs.declared.Handed.{Handed}
 use Rattle.device.specs.declared.Handed.the-variants as handed
 use Rattle.record.specs.Record.{recordSize, deviceOf}
@@ -23,13 +23,13 @@ use Rattle.area.specs.Loop.{Loop, countIn, recordsIn, size, loopOf, device, lin
 use Rattle.area.specs.Lookup.{oldestOf, setDevice}
 use Rattle.area.specs.declared.Oldest.{Oldest}
 use Rattle.area.specs.declared.Place.{Place}
-use Rattle.pil.specs.Outcome.{Outcome, refuse, done}
-use Rattle.pil.specs.Calls.{refusal, hopAnswer, sentBy, passed, putIn, takeFrom, takeIn, hopFrom, hopIn, calledIn}
-use Rattle.pil.specs.Calls.{localIn, hasRoom}
-use Rattle.pil.specs.Drain.{onPlace, stopped, handedTo, turned, highest, drainFrom}
-use Rattle.pil.specs.declared.HopAnswer.{HopAnswer}
-use Rattle.pil.specs.declared.TakeAnswer.{TakeAnswer}
-use Rattle.pil.specs.declared.DrainAnswer.{DrainAnswer}
+use Rattle.calls.specs.Outcome.{Outcome, refuse, done}
+use Rattle.calls.specs.Calls.{refusal, hopAnswer, sentBy, passed, putIn, takeFrom, takeIn, hopFrom, hopIn, calledIn}
+use Rattle.calls.specs.Calls.{localIn, hasRoom}
+use Rattle.calls.specs.Drain.{onPlace, stopped, handedTo, turned, highest, drainFrom}
+use Rattle.calls.specs.declared.HopAnswer.{HopAnswer}
+use Rattle.calls.specs.declared.TakeAnswer.{TakeAnswer}
+use Rattle.calls.specs.declared.DrainAnswer.{DrainAnswer}
 use Rattle.demands.proofs.Refusals.{Told, no, yes, turned-lt, told-cond, none-is, some-is}
 
 -- byte 0 is how many devices there are

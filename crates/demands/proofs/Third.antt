@@ -16,8 +16,8 @@ use Rattle.area.specs.Sizes.{itemSize}
 use Rattle.area.specs.Loop.{Loop, countIn, size, loopOf, areaOf, link, Sound-loop}
 use Rattle.area.proofs.Parts.{length-parts}
 use Rattle.area.proofs.Laws.{loop-back}
-use Rattle.pil.specs.SetUp.{itemsOf, poweredOn}
-use Rattle.pil.proofs.Powered.{set-up-sound}
+use Rattle.calls.specs.SetUp.{itemsOf, poweredOn}
+use Rattle.calls.proofs.Powered.{set-up-sound}
 use Rattle.order.specs.Line as line
 use Rattle.order.specs.Flat as flat
 use Rattle.order.specs.History as told

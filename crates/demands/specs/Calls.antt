@@ -2,16 +2,16 @@
 -- the exported functions cite.
 use Prim.Native.Nat.{ℕ, _<_}
 use mathlib.Core.List.{List, map}
-use Rattle.pil.specs.Outcome.{After, after}
-use Rattle.pil.specs.Calls.{noTake, noHop, putOf, takeOf, hopOf, loadOf, statusOf, wishOf}
-use Rattle.pil.specs.Drain.{noDrain, drainOf}
-use Rattle.pil.specs.SetUp.{setUpOf}
-use Rattle.pil.specs.Coding.{decodeAnswer, encodeAnswer}
-use Rattle.pil.specs.declared.HopAnswer.{HopAnswer}
-use Rattle.pil.specs.declared.TakeAnswer.{TakeAnswer}
-use Rattle.pil.specs.declared.DrainAnswer.{DrainAnswer}
-use Rattle.pil.specs.declared.DecodeAnswer.{DecodeAnswer}
-use Rattle.pil.specs.declared.EncodeAnswer.{EncodeAnswer}
+use Rattle.calls.specs.Outcome.{After, after}
+use Rattle.calls.specs.Calls.{noTake, noHop, putOf, takeOf, hopOf, loadOf, statusOf, wishOf}
+use Rattle.calls.specs.Drain.{noDrain, drainOf}
+use Rattle.calls.specs.SetUp.{setUpOf}
+use Rattle.coding.specs.Coding.{decodeAnswer, encodeAnswer}
+use Rattle.calls.specs.declared.HopAnswer.{HopAnswer}
+use Rattle.calls.specs.declared.TakeAnswer.{TakeAnswer}
+use Rattle.calls.specs.declared.DrainAnswer.{DrainAnswer}
+use Rattle.coding.specs.declared.DecodeAnswer.{DecodeAnswer}
+use Rattle.coding.specs.declared.EncodeAnswer.{EncodeAnswer}
 
 -- a byte, as C has it
 pub record Byte : Type 0 where

@@ -13,8 +13,8 @@ use Rattle.record.specs.Fits.{Bytes}
 use Rattle.area.specs.Sizes.{depth, recordAt, linkAt}
 use Rattle.area.specs.Link.{linkOf}
 use Rattle.area.specs.Loop.{countIn, loopOf, judgeOf, device, link}
-use Rattle.pil.specs.Outcome.{After}
-use Rattle.pil.specs.Calls.{hopAnswer}
+use Rattle.calls.specs.Outcome.{After}
+use Rattle.calls.specs.Calls.{hopAnswer}
 use Rattle.demands.specs.Calls.{Byte, Action, hop, Call, does, setUp, Answer, hopped, acts, pil, refusalIn, bare}
 use Rattle.demands.specs.Conditions.{lowest}
 use Rattle.demands.specs.Histories.{areaLeft, framesPut, framesTaken, bytesHanded, hopsMade, callsRefused}

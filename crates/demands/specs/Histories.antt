@@ -8,14 +8,14 @@ use mathlib.Core.List.{List, [], _∷_, _++_, map}
 use lib.Dec.{T, eqb, ltb, lit<}
 use Rattle.frame.specs.Messages.{frames}
 use Rattle.device.specs.Take.{takes}
-use Rattle.device.specs.Local.{loads, setsStatus, wishes}
+use Rattle.local.specs.Local.{loads, setsStatus, wishes}
 use Rattle.device.specs.declared.Device.{Device}
 use Rattle.device.specs.declared.Handed.{Handed}
 use Rattle.device.specs.declared.Handed.the-variants as handed
-use Rattle.device.specs.declared.Called.{Called}
+use Rattle.local.specs.declared.Called.{Called}
 use Rattle.area.specs.Sizes.{depth}
 use Rattle.area.specs.Loop.{countIn, loopOf}
-use Rattle.pil.specs.Outcome.{After}
+use Rattle.calls.specs.Outcome.{After}
 use Rattle.order.specs.Line as line
 use Rattle.order.specs.Flat.{lineUp}
 use Rattle.order.specs.History.{Turn, turns}

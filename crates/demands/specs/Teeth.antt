@@ -6,7 +6,7 @@ use mathlib.Core.List.{List, [], _∷_}
 use Rattle.device.specs.PowerOn.{powerOn}
 use Rattle.device.specs.Take.{takes}
 use Rattle.area.specs.Loop.{Loop, areaOf}
-use Rattle.pil.specs.Outcome.{After, after}
+use Rattle.calls.specs.Outcome.{After, after}
 use Rattle.demands.specs.Calls.{Byte, Action, put, hop, take, load, status, wish, drain, Call, does, Answer, pil}
 use Rattle.demands.specs.Calls.{refusalIn, bare}
 use Rattle.demands.specs.Conditions.{Empty, Full}

@@ -9,10 +9,8 @@ use borrow.Author.Tests.{eq-eqb, ne-eqb, lt-ltb, le-ltb, le-leb, lt-leb}
 use Rattle.device.specs.Choose.{choose}
 use Rattle.device.specs.Change.{talking}
 use Rattle.device.specs.Reply.{sends, marked, continues}
-use Rattle.device.specs.Local.{accepted}
 use Rattle.device.specs.declared.Device.{Device}
 use Rattle.device.specs.declared.Sent.{Sent}
-use Rattle.device.specs.declared.Called.{Called}
 
 yes : {A : Type 0} {b : Bool} {x a : A} (z : A) → b ≡ true → x ≡ a → x ≡ choose b a z
 unfolding choose
@@ -62,9 +60,6 @@ continues-on p q = rw (← q) p
 pub talking-on : {r d e : Device} (x : ℕ) → r ≡ talking d x → d ≡ e → r ≡ talking e x
 talking-on x p q = rw (← q) p
 
-pub accepted-on : {r : Called} {d e : Device} → r ≡ accepted d → d ≡ e → r ≡ accepted e
-accepted-on p q = rw (← q) p
-
 pub plus : {x y : ℕ} (n : ℕ) → x ≡ y → x + n ≡ y + n
 plus n p = rw p
 
@@ -85,7 +80,6 @@ pub ruleset arms = (
   marked-on,
   continues-on,
   talking-on,
-  accepted-on,
   plus,
   either,
 )

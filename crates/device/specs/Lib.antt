@@ -1,3 +1,4 @@
+-- One device: its fields, power-on, and what it does with a frame (01).
 pub mod Choose
 pub mod Device
 pub mod PowerOn
@@ -7,5 +8,4 @@ pub mod Reply
 pub mod Ready
 pub mod Data
 pub mod Take
-pub mod Local
 pub mod Rows

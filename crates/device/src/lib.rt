@@ -1,9 +1,8 @@
 // One device of the loop by value: its fields as 01's table of the record has them, and its state at power-on.
-// What it does with a frame stands in commands, ready, reply, data and take; its local calls stand in local.
+// What it does with a frame stands in commands, ready, reply, data and take.
 mod change;
 mod commands;
 mod data;
-mod local;
 mod ready;
 mod reply;
 mod take;
@@ -43,12 +42,6 @@ pub struct Sent {
     pub device: Device,
     pub frame: u16,
     pub handed: Handed,
-}
-
-// What a local call leaves: refusal 0 and the next device, or a refusal and the device as it was.
-pub struct Called {
-    pub refusal: u8,
-    pub device: Device,
 }
 
 impl Device {
@@ -96,7 +89,7 @@ impl Device {
 
     pub const MOST_DATA: usize = 32;
 
-    pub(crate) fn has(self, ability: u8) -> bool
+    pub fn has(self, ability: u8) -> bool
         ensures { λ r. ⌜ r ≡ has self ability ⌝ }
     {
         self.abilities & ability != 0

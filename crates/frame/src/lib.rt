@@ -1,6 +1,4 @@
-// The codes of the loop: the kind of a frame, the frame of a kind, and the published table of kinds.
-pub mod kinds;
-
+// The codes of the loop: the kind of a frame, and the frame of a kind.
 ghost use mathlib.Core.Path.{_≡_};
 ghost use Prim.Native.Nat.{_<_};
 ghost use Rattle.frame.specs.Messages.{kinds, kindAt, numberOf, firstOf, codesOf};
@@ -306,17 +304,6 @@ pub fn encode(kind: u64, offset: u64) -> Encoded
         Encoded::Frame(first(k) + offset as u16)
     } else {
         Encoded::BadFrame
-    }
-}
-
-// The kind number of a frame, from the published table, and 0 for a number over 2,047.
-pub fn published(frame: u64) -> u8
-    ensures { λ r. ⌜ r ≡ kindAt frame ⌝ }
-{
-    if frame < FRAMES as u64 {
-        kinds::KINDS[frame as usize]
-    } else {
-        0
     }
 }
 

@@ -19,10 +19,10 @@ use Rattle.device.specs.Reply.{sends, marked, eto, ete, continues}
 use Rattle.device.specs.Ready.{requested, polls, sst, nrd, aad}
 use Rattle.device.specs.Data.{returned, heard, dataOrEnd}
 use Rattle.device.specs.Take.{Rule, number, rules, select, takes}
-use Rattle.device.specs.Local.{loads, setsStatus, wishing, wishes}
+use Rattle.local.specs.Local.{loads, setsStatus, wishing, wishes}
 use Rattle.device.specs.declared.Device.{Device}
 use Rattle.device.specs.declared.Sent.{Sent}
-use Rattle.device.specs.declared.Called.{Called}
+use Rattle.local.specs.declared.Called.{Called}
 use Rattle.record.specs.Fits.{Good}
 use Rattle.keeps.specs.Keeps.{TakeKeeps, TakeBelow, LoadKeeps, StatusKeeps, WishKeeps, LeavingZeroes}
 use Rattle.keeps.proofs.Groups.{Kept, kept-of, good-of, lt-out}

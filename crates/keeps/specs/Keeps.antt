@@ -5,7 +5,7 @@ use mathlib.Core.List.{List, []}
 use Rattle.frame.specs.Messages.{frames}
 use Rattle.device.specs.Device.{addressed}
 use Rattle.device.specs.Take.{takes}
-use Rattle.device.specs.Local.{loads, setsStatus, wishes}
+use Rattle.local.specs.Local.{loads, setsStatus, wishes}
 use Rattle.device.specs.declared.Device.{Device}
 use Rattle.record.specs.Fits.{Bytes, Good}
 

@@ -1,1 +1,2 @@
+-- What a sound device keeps, whatever it is given.
 pub mod Keeps

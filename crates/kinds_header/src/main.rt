@@ -31,7 +31,7 @@ fn entry(at: u64) {
     if at % 16 == 0 {
         text(b"    ");
     }
-    decimal(frame::published(at) as u64);
+    decimal(published::kind(at) as u64);
     if at % 16 == 15 {
         text(b",\n");
     } else {

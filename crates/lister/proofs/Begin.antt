@@ -15,14 +15,14 @@ use Rattle.area.specs.Sizes.{mostDevices, itemSize, areaSize}
 use Rattle.area.specs.Parts.{all, parts, join}
 use Rattle.area.specs.Loop.{shape, unsound, areaOf}
 use Rattle.area.proofs.Parts.{length-join, length-parts}
-use Rattle.pil.specs.Outcome.{After, after}
-use Rattle.pil.specs.SetUp.{devicesFor, itemsOf, itemsFit, poweredOn, setUpOf}
-use Rattle.pil.proofs.Powered.{set-up-sound}
+use Rattle.calls.specs.Outcome.{After, after}
+use Rattle.calls.specs.SetUp.{devicesFor, itemsOf, itemsFit, poweredOn, setUpOf}
+use Rattle.calls.proofs.Powered.{set-up-sound}
 use Rattle.text.specs.Words.{loopWord, begins}
 use Rattle.text.specs.Digits.{numberAt}
-use Rattle.text.specs.Script.{wordSize, devicesIn, groupsIn, groupSize, groupRight, loopRight, itemOf, itemsIn}
-use Rattle.text.proofs.Scripts.{group-digits}
-use Rattle.lister.proofs.Held.{Area}
+use Rattle.script.specs.Script.{wordSize, devicesIn, groupsIn, groupSize, groupRight, loopRight, itemOf, itemsIn}
+use Rattle.script.proofs.Scripts.{group-digits}
+use Rattle.round.proofs.Held.{Area}
 
 -- there is an item for each device
 pub items-long : (line : List ℕ) → length (itemsIn line) ≡ itemSize * devicesIn line

@@ -16,20 +16,21 @@ use Rattle.area.specs.Sizes.{mostDevices, itemSize, areaSize}
 use Rattle.area.specs.Parts.{all}
 use Rattle.area.specs.Loop.{size, areaOf, unsound}
 use Rattle.area.proofs.Parts.{length-parts}
-use Rattle.pil.specs.Outcome.{After, after}
-use Rattle.pil.specs.SetUp.{itemsOf, itemsFit, poweredOn, setUpOf}
+use Rattle.calls.specs.Outcome.{After, after}
+use Rattle.calls.specs.SetUp.{itemsOf, itemsFit, poweredOn, setUpOf}
 use Rattle.text.specs.Words.{newline, begins}
 use Rattle.lister.specs.Lines.{linesOf}
 use Rattle.text.specs.Out.{badLine, longLine}
-use Rattle.text.specs.Script.{devicesIn, loopRight, itemsIn}
+use Rattle.script.specs.Script.{devicesIn, loopRight, itemsIn}
 use Rattle.lister.specs.Listing.{longest, framesListed, setUp, setUpListed, scriptListed, listing}
-use Rattle.lister.specs.Chunks.{areaRoom, textRoom, roomy, over, Does, does, lineAt, setUpIn, setUpDoes}
+use Rattle.round.specs.Round.{textRoom}
+use Rattle.lister.specs.Chunks.{areaRoom, roomy, over, Does, does, lineAt, setUpIn, setUpDoes}
 use Rattle.lister.specs.Chunks.{firstDoes}
 use Rattle.lister.specs.Chunks.{startDoes}
 use Rattle.lister.specs.Laws.{textFrom, nextFrom, ChunksList}
 use Rattle.lister.specs.declared.Next.{Next}
 use Rattle.lister.proofs.Cut.{index-within, lines-cut}
-use Rattle.lister.proofs.Held.{Area, long}
+use Rattle.round.proofs.Held.{Area, long}
 use Rattle.lister.proofs.Begin.{items-long, set-up-refused, set-up-done, powered, Line1, line1}
 use Rattle.lister.proofs.Listed.{end-text, end-next, listed}
 

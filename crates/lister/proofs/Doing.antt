@@ -16,22 +16,22 @@ use Rattle.area.specs.Sizes.{mostDevices, itemSize, areaSize}
 use Rattle.area.specs.Parts.{parts, join, all}
 use Rattle.area.specs.Loop.{countIn, judgeOf, areaOf, unsound}
 use Rattle.area.proofs.Parts.{rest-is}
-use Rattle.pil.specs.Outcome.{After, after, Is}
-use Rattle.pil.specs.SetUp.{itemsOf, poweredOn, setUpOf}
+use Rattle.calls.specs.Outcome.{After, after, Is}
+use Rattle.calls.specs.SetUp.{itemsOf, poweredOn, setUpOf}
 use Rattle.bytes.specs.Bytes.{indexOf, slice}
 use Rattle.text.specs.Words.{newline}
 use Rattle.text.specs.Digits.{numberAt}
 use Rattle.text.specs.Out.{badLine, longLine}
-use Rattle.lister.specs.Round.{roundText, roundArea}
-use Rattle.text.specs.Script.{wordSize, groupSize, devicesIn, loopRight, loopIn, itemOf, itemsIn, frameRight, frameIn}
+use Rattle.round.specs.Round.{textRoom, roundText, roundArea}
+use Rattle.script.specs.Script.{wordSize, groupSize, devicesIn, loopRight, loopIn, itemOf, itemsIn, frameRight, frameIn}
 use Rattle.text.specs.Write.{Wrote}
 use Rattle.lister.specs.Listing.{longest}
-use Rattle.lister.specs.Chunks.{areaRoom, textRoom, roomy, sizeIn, loopBytes, does, lineAt, setUpIn}
+use Rattle.lister.specs.Chunks.{areaRoom, roomy, sizeIn, loopBytes, does, lineAt, setUpIn}
 use Rattle.lister.specs.Inner.{SetUp}
 use Rattle.lister.specs.Chunks.{setUpDoes, firstDoes, startDoes, lineDoes, ready, stepDoes, Does, Did}
 use Rattle.lister.specs.declared.Chunk.{Chunk}
-use Rattle.text.specs.declared.FrameLine.{FrameLine}
-use Rattle.text.specs.declared.LoopLine.{LoopLine}
+use Rattle.script.specs.declared.FrameLine.{FrameLine}
+use Rattle.script.specs.declared.LoopLine.{LoopLine}
 use Rattle.lister.specs.declared.Next.{Next}
 use Rattle.lister.proofs.Begin.{items-long, set-up-refused, set-up-done}
 

@@ -1,4 +1,4 @@
--- The laws of specs/Laws.antt.
+-- The laws of the lister: a contract leaves one answer, one area and one buffer, and the chunks are the listing.
 use mathlib.Core.Path.{_≡_, sym, _∙_}
 use Rattle.lister.specs.Laws.{Unique, ChunksList}
 use Rattle.lister.specs.declared.Chunk.{Chunk}

@@ -1,7 +1,5 @@
 -- The laws of the lister: what its functions rest on, and, in Laws, what holds of its calls.
 pub mod Cut
-pub mod Held
-pub mod Hops
 pub mod Begin
 pub mod Listed
 pub mod Doing

@@ -17,15 +17,15 @@ use Rattle.text.specs.Words.{newline}
 use Rattle.text.specs.Digits.{numberAt}
 use Rattle.lister.specs.Lines.{linesOf}
 use Rattle.text.specs.Out.{badLine}
-use Rattle.text.specs.Script.{frameRight}
-use Rattle.lister.specs.Round.{roundText, roundArea}
+use Rattle.script.specs.Script.{frameRight}
+use Rattle.round.specs.Round.{textRoom, roundText, roundArea}
 use Rattle.lister.specs.Listing.{longest, framesListed}
-use Rattle.lister.specs.Chunks.{areaRoom, textRoom, roomy, sizeIn, loopBytes, over, does, lineAt, lineDoes, ready}
+use Rattle.lister.specs.Chunks.{areaRoom, roomy, sizeIn, loopBytes, over, does, lineAt, lineDoes, ready}
 use Rattle.lister.specs.Chunks.{stepDoes}
 use Rattle.lister.specs.Laws.{textFrom, nextFrom}
 use Rattle.lister.specs.declared.Next.{Next}
 use Rattle.lister.proofs.Cut.{index-within, lines-cut}
-use Rattle.lister.proofs.Held.{Area, judged, counted, few, long, round-held}
+use Rattle.round.proofs.Held.{Area, judged, counted, few, long, round-held}
 
 -- ---- a loop's area at the front of the lent one
 

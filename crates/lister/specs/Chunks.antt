@@ -1,5 +1,5 @@
 -- What each call of the lister does: a chunk of the listing, over a lent area that may be longer than the loop's.
-use Prim.Native.Nat.{ℕ, _+_, _*_}
+use Prim.Native.Nat.{ℕ, _+_}
 use mathlib.Core.Path.{_≡_}
 use mathlib.Core.List.{List, [], _++_}
 use mathlib.Core.Bool.{Bool, cond, _&&_}
@@ -9,24 +9,20 @@ use Rattle.bytes.specs.Bytes.{indexOf}
 use Rattle.record.specs.Parts.{splice}
 use Rattle.area.specs.Sizes.{mostDevices, areaSize}
 use Rattle.area.specs.Loop.{countIn, judgeOf}
-use Rattle.pil.specs.Outcome.{After}
-use Rattle.pil.specs.SetUp.{setUpOf}
+use Rattle.calls.specs.Outcome.{After}
+use Rattle.calls.specs.SetUp.{setUpOf}
 use Rattle.text.specs.Words.{newline}
 use Rattle.text.specs.Digits.{numberAt}
-use Rattle.text.specs.Out.{handSize, frameSize, badLine, longLine}
-use Rattle.text.specs.Script.{devicesIn, loopRight, itemsIn, frameRight}
-use Rattle.lister.specs.Round.{roundText, roundArea}
+use Rattle.text.specs.Out.{badLine, longLine}
+use Rattle.script.specs.Script.{devicesIn, loopRight, itemsIn, frameRight}
+use Rattle.round.specs.Round.{textRoom, roundText, roundArea}
 use Rattle.lister.specs.Listing.{longest}
 use Rattle.lister.specs.declared.Chunk.{Chunk}
 use Rattle.lister.specs.declared.Next.{Next}
 
 -- ---- what is lent
 
--- bytes that a chunk can need: a hand line for each device and a frame line
-abbrev pub textRoom : ℕ
-textRoom = handSize * mostDevices + frameSize
-
--- and bytes of the largest area
+-- bytes of the largest area
 abbrev pub areaRoom : ℕ
 areaRoom = areaSize mostDevices
 

@@ -5,7 +5,8 @@ use mathlib.Core.Path.{_≡_}
 use mathlib.Core.List.{List, [], _++_}
 use lib.ListN.{length}
 use Rattle.lister.specs.Listing.{listing}
-use Rattle.lister.specs.Chunks.{areaRoom, textRoom, Does, startDoes, stepDoes, Did}
+use Rattle.round.specs.Round.{textRoom}
+use Rattle.lister.specs.Chunks.{areaRoom, Does, startDoes, stepDoes, Did}
 use Rattle.lister.specs.declared.Chunk.{Chunk}
 use Rattle.lister.specs.declared.Next.{Next}
 

@@ -1,6 +1,5 @@
 -- The lister: what it prints for an input of any bytes, and what each of its calls writes of it.
 pub mod Lines
-pub mod Round
 pub mod Listing
 pub mod Chunks
 pub mod Inner

@@ -5,13 +5,13 @@ use mathlib.Core.Bool.{cond}
 use lib.Dec.{eqb, ltb}
 use lib.ListN.{length, replicate}
 use Rattle.area.specs.Sizes.{areaSize}
-use Rattle.pil.specs.Outcome.{After}
-use Rattle.pil.specs.SetUp.{setUpOf}
+use Rattle.calls.specs.Outcome.{After}
+use Rattle.calls.specs.SetUp.{setUpOf}
 use Rattle.text.specs.Digits.{numberAt}
 use Rattle.lister.specs.Lines.{linesOf}
 use Rattle.text.specs.Out.{badLine, longLine}
-use Rattle.text.specs.Script.{devicesIn, loopRight, itemsIn, frameRight}
-use Rattle.lister.specs.Round.{roundText, roundArea}
+use Rattle.script.specs.Script.{devicesIn, loopRight, itemsIn, frameRight}
+use Rattle.round.specs.Round.{roundText, roundArea}
 
 -- the most bytes of an input
 abbrev pub longest : ℕ

@@ -1,15 +1,14 @@
 // The lister (01, the lister): a script of frames in, what the loop does with them out. `start` writes the first chunk
 // of the listing, `step` each further one, over an area and a buffer that the caller lends.
 mod list;
-mod round;
 
 use area::HEADER_SIZE;
 use area::LINK_SIZE;
 use area::MOST_DEVICES;
 pub use list::start;
 pub use list::step;
-use text::write::FRAME_SIZE;
-use text::write::HAND_SIZE;
+use text::FRAME_SIZE;
+use text::HAND_SIZE;
 ghost use mathlib.Core.Path.{_≡_};
 
 // The most bytes of an input.

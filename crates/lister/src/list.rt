@@ -4,41 +4,31 @@ use crate::Chunk;
 use crate::LONGEST;
 use crate::Next;
 use crate::TEXT_ROOM;
-use crate::round::round;
-use area::HEADER_SIZE;
 use area::ITEM_SIZE;
-use area::LINK_SIZE;
 use area::MOST_DEVICES;
-use area::judge::judge;
-use pil::set_up::pil_set_up;
-use text::FrameLine;
-use text::LoopLine;
-use text::read::WORD_SIZE;
-use text::read::frame_in;
-use text::read::items_in;
-use text::read::loop_in;
-use text::write::bad_line;
-use text::write::put;
+use area::area_size;
+use judge::judge;
+use round::round;
+use script::FrameLine;
+use script::LoopLine;
+use script::WORD_SIZE;
+use script::frame_in;
+use script::items_in;
+use script::loop_in;
+use text::bad_line;
+use text::put;
 ghost use mathlib.Core.Path.{_≡_};
 ghost use mathlib.Core.Bool.{true};
 ghost use Prim.Native.Nat.{_+_, _^_, _≤_, _<_};
 ghost use lib.ListN.{length};
-ghost use Rattle.area.specs.Sizes.{mostDevices, areaSize};
-ghost use Rattle.text.specs.Script.{loopIn};
-ghost use Rattle.lister.specs.Chunks.{areaRoom, textRoom, roomy, ready, Did};
+ghost use Rattle.script.specs.Script.{loopIn};
+ghost use Rattle.lister.specs.Chunks.{areaRoom, roomy, ready, Did};
+ghost use Rattle.round.specs.Round.{textRoom};
 ghost use Rattle.lister.specs.Inner.{SetUp};
 ghost use Rattle.lister.specs.Chunks.{firstDoes, startDoes, lineDoes, stepDoes};
 
 // Bytes of the items of as many devices as a loop can have.
 const ITEMS_ROOM: usize = ITEM_SIZE * MOST_DEVICES;
-
-// Bytes of an area of n devices.
-fn area_size(n: usize) -> usize
-    requires { ⌜ n ≤ mostDevices ⌝ }
-    ensures { λ r. ⌜ r ≡ areaSize n ⌝ }
-{
-    HEADER_SIZE + record::SIZE * n + LINK_SIZE * (n + 1)
-}
 
 // What is lent is large enough.
 fn is_roomy(area: &[u8], out: &[u8]) -> bool
@@ -70,7 +60,7 @@ fn set_up(line: &[u8], n: usize, area: &mut [u8]) -> u8
     let mut items = [0u8; ITEMS_ROOM];
     items_in(&line[WORD_SIZE..], n, &mut items);
     let size = area_size(n);
-    pil_set_up(&mut area[..size], &items[..ITEM_SIZE * n])
+    set_up::set_up(&mut area[..size], &items[..ITEM_SIZE * n])
 }
 
 // Line 1.

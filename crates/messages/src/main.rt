@@ -201,7 +201,7 @@ fn run(start: u64, at: u64) -> u64
     hex(at);
     kind_at(start);
     text(b" ");
-    decimal(frame::published(start) as u64);
+    decimal(published::kind(start) as u64);
     text(b"\n");
     at + 1
 }

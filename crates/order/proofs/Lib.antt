@@ -1,3 +1,4 @@
+-- Streams: each link carries one stream of frames. Rounds: that can be had frame by frame. Order: so the two agree.
 pub mod Agree
 pub mod Drain
 pub mod Example

@@ -1,52 +1,83 @@
-// The calls over a lent area, exported to C (01, The calls): numbers and bytes in, a refusal or an answer out.
-// A refusal carries its number and otherwise zeros; 0 is no refusal.
-mod answers;
-pub mod coding;
-pub mod drain;
-pub mod hop;
-pub mod local;
-pub mod put;
-pub mod set_up;
-pub mod take;
+// The calls exported to C (01, The calls): numbers and bytes in, a refusal or an answer out. Each stands in the crate
+// of its idea; here is the boundary that C sees.
+use calls::DrainAnswer;
+use calls::HopAnswer;
+use calls::TakeAnswer;
+use coding::DecodeAnswer;
+use coding::EncodeAnswer;
+ghost use mathlib.Core.Path.{_≡_};
+ghost use Rattle.calls.specs.Outcome.{Is};
+ghost use Rattle.calls.specs.Calls.{putOf, takeOf, hopOf, loadOf, statusOf, wishOf};
+ghost use Rattle.calls.specs.Drain.{drainOf};
+ghost use Rattle.calls.specs.SetUp.{setUpOf};
+ghost use Rattle.coding.specs.Coding.{decodeAnswer, encodeAnswer};
 
-// The frame sent and, where `handed` is 1, the byte handed with its end bit.
-#[repr(C)]
-pub struct HopAnswer {
-    pub frame: u16,
-    pub refusal: u8,
-    pub handed: u8,
-    pub byte: u8,
-    pub end: u8,
+#[no_mangle]
+pub extern "C" fn pil_set_up(area: &mut [u8], items: &[u8]) -> u8
+    ensures { λ r. ⌜ Is (setUpOf (now (area .entry)) (now (items .entry))) r (now (area .exit)) ⌝ }
+{
+    set_up::set_up(area, items)
 }
 
-// The frame taken.
-#[repr(C)]
-pub struct TakeAnswer {
-    pub frame: u16,
-    pub refusal: u8,
+#[no_mangle]
+pub extern "C" fn pil_put(area: &mut [u8], frame: u64) -> u8
+    ensures { λ r. ⌜ Is (putOf (now (area .entry)) frame) r (now (area .exit)) ⌝ }
+{
+    ends::put::put(area, frame)
 }
 
-// The hops made and why there are no more; for reason 2 the device, the byte handed to it and its end bit.
-#[repr(C)]
-pub struct DrainAnswer {
-    pub hops: u32,
-    pub refusal: u8,
-    pub reason: u8,
-    pub device: u8,
-    pub byte: u8,
-    pub end: u8,
+#[no_mangle]
+pub extern "C" fn pil_take(area: &mut [u8]) -> TakeAnswer
+    ensures { λ r. ⌜ Is (takeOf (now (area .entry))) r (now (area .exit)) ⌝ }
+{
+    ends::take::take(area)
 }
 
-// The kind of a frame.
-#[repr(C)]
-pub struct DecodeAnswer {
-    pub refusal: u8,
-    pub kind: u8,
+#[no_mangle]
+pub extern "C" fn pil_hop(area: &mut [u8], device: u64) -> HopAnswer
+    ensures { λ r. ⌜ Is (hopOf (now (area .entry)) device) r (now (area .exit)) ⌝ }
+{
+    hop::hop(area, device)
 }
 
-// The frame of a kind and an offset.
-#[repr(C)]
-pub struct EncodeAnswer {
-    pub frame: u16,
-    pub refusal: u8,
+#[no_mangle]
+pub extern "C" fn pil_drain(area: &mut [u8], budget: u64) -> DrainAnswer
+    ensures { λ r. ⌜ Is (drainOf (now (area .entry)) budget) r (now (area .exit)) ⌝ }
+{
+    drain::drain(area, budget)
+}
+
+#[no_mangle]
+pub extern "C" fn pil_load(area: &mut [u8], device: u64, bytes: &[u8]) -> u8
+    ensures { λ r. ⌜ Is (loadOf (now (area .entry)) device (now (bytes .entry))) r (now (area .exit)) ⌝ }
+{
+    local_calls::load(area, device, bytes)
+}
+
+#[no_mangle]
+pub extern "C" fn pil_status(area: &mut [u8], device: u64, status: u8) -> u8
+    ensures { λ r. ⌜ Is (statusOf (now (area .entry)) device status) r (now (area .exit)) ⌝ }
+{
+    local_calls::status(area, device, status)
+}
+
+#[no_mangle]
+pub extern "C" fn pil_wish(area: &mut [u8], device: u64, wish: u64) -> u8
+    ensures { λ r. ⌜ Is (wishOf (now (area .entry)) device wish) r (now (area .exit)) ⌝ }
+{
+    local_calls::wish(area, device, wish)
+}
+
+#[no_mangle]
+pub extern "C" fn pil_decode(frame: u64) -> DecodeAnswer
+    ensures { λ r. ⌜ r ≡ decodeAnswer frame ⌝ }
+{
+    coding::decode(frame)
+}
+
+#[no_mangle]
+pub extern "C" fn pil_encode(kind: u64, offset: u64) -> EncodeAnswer
+    ensures { λ r. ⌜ r ≡ encodeAnswer kind offset ⌝ }
+{
+    coding::encode(kind, offset)
 }

@@ -1,6 +1,4 @@
-// A device's record of 64 bytes, read and written (01, The lent area). When it is sound stands in sound.
-pub mod sound;
-
+// A device's record of 64 bytes, read and written (01, The lent area). When it is sound is judged in the crate sound.
 use device::Device;
 ghost use mathlib.Core.Path.{_≡_};
 ghost use Prim.Native.Nat.{_+_, _<_, _≤_};

@@ -59,7 +59,7 @@ fn no_data() {
 }
 
 fn loaded(bytes: &[u8]) {
-    let called = unconfigured().load(bytes);
+    let called = local::load(unconfigured(), bytes);
     let device = called.device;
     text(b"load ");
     decimal(bytes.len() as u64);
@@ -71,7 +71,7 @@ fn loaded(bytes: &[u8]) {
 
 // A loop of devices that can do nothing.
 fn set_up(area: &mut [u8], items: &[u8]) {
-    let answer = pil::set_up::pil_set_up(area, items);
+    let answer = pil::pil_set_up(area, items);
     decimal(items.len() as u64 / 12);
     text(b" devices in ");
     decimal(area.len() as u64);
@@ -93,7 +93,7 @@ fn sixteen() {
 }
 
 fn put(area: &mut [u8], frame: u64) {
-    let answer = pil::put::pil_put(area, frame);
+    let answer = pil::pil_put(area, frame);
     text(b"put ");
     decimal(frame);
     refusal(answer);
@@ -124,7 +124,7 @@ fn five() {
 }
 
 fn hop(area: &mut [u8], device: u64) {
-    let answer = pil::hop::pil_hop(area, device);
+    let answer = pil::pil_hop(area, device);
     text(b"hop ");
     decimal(device);
     refusal(answer.refusal);

@@ -1,5 +1,3 @@
--- The laws of the text: texts one behind the other, digits, lines read, and items filled in.
+-- The laws of the text: texts one behind the other, and digits.
 pub mod Splices
 pub mod Numbers
-pub mod Scripts
-pub mod Items

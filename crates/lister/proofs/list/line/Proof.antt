@@ -34,7 +34,7 @@ cast-area-size : tie.Need-cast-area-size
 cast-area-size c = omega (arith, c .slice-known4 .given 0)
 
 area-size-requires : tie.Need-area-size-requires
-area-size-requires c κs = given (c .before .before .before .before .before .before .before .before) .few
+area-size-requires c κs = omega (arith, given (c .before .before .before .before .before .before .before .before) .few)
 
 -- the loop's bytes
 part : tie.Need-slice-relend-prefix-round

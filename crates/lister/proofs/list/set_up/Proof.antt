@@ -6,7 +6,7 @@ use lib.ListN.{length, length-drop}
 use lib.Seq.{length-take-le}
 use borrow.Author.Needs.{needs}
 use Rattle.area.proofs.Parts.{rest-is}
-use Rattle.text.specs.Script.{wordSize}
+use Rattle.script.specs.Script.{wordSize}
 use Rattle.text.proofs.Splices.{front}
 use Rattle.lister.proofs.Begin.{Line1, line1}
 use Rattle.lister.proofs.Doing.{Devices, devices, set-up-told}
@@ -35,7 +35,7 @@ items-in-requires c κs =
     (rw length-drop (omega (arith, l .long)), omega (arith, d .count, d .few), l .groups)
 
 area-size-requires : tie.Need-area-size-requires
-area-size-requires c κs = told (c .before .before .before .before .before .before) .few
+area-size-requires c κs = omega (arith, told (c .before .before .before .before .before .before) .few)
 
 -- the part of the area that is lent on
 part : (c : tie.After-area-size) → c .area-size .result ≤ length
@@ -44,7 +44,7 @@ part c =
     let s = c .before .before .before .before .before .before .before in
     omega (arith, c .area-size .ensures, told s .few, s .pre .1)
 
-aggregate : tie.Need-slice-aggregate-pil-set-up
+aggregate : tie.Need-slice-aggregate-set-up
 aggregate c = sym (length-take-le _ _ (part (c .before)))
 
 -- the items that are lent on
@@ -54,7 +54,7 @@ some-items c =
     let i = c .before .before .before in
     omega (arith, told s .few, i .items-in .kept .1 .1 .0)
 
-aggregate-2 : tie.Need-slice-aggregate-pil-set-up-2
+aggregate-2 : tie.Need-slice-aggregate-set-up-2
 aggregate-2 c = sym (length-take-le _ _ (some-items (c .before)))
 
 returns : tie.Need-returns
@@ -64,7 +64,7 @@ returns c =
     let i = a .before .before in
     let s = i .before .before .before .before .before in
     set-up-told (s .args .line .now) (i .items-in .last .1 .1 .0) (told s) (a .area-size .ensures)
-    (front (omega arith) (i .items-in .ensures)) (p .pil-set-up .ensures)
+    (front (omega arith) (i .items-in .ensures)) (p .set-up .ensures)
 
 pub set-up-spec : {M : Type 1} → statement M
 set-up-spec =

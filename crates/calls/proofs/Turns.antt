@@ -1,0 +1,221 @@
+-- The drain, turn by turn: which device is found, what its hop does, and what the whole drain then is.
+use mathlib.Core.Path.{_≡_, refl, sym, ap, _∙_}
+use mathlib.Core.List.{List}
+use mathlib.Core.Bool.{Bool, true, false, cond}
+use Prim.Native.Nat.{ℕ, zero, suc, _+_, _-_, _≤_, _<_}
+use native.Mathlib.Omega.{arith}
+use native.Mathlib.Numerals.{add-one}
+use native.Mathlib.Nat.{not-suc-le-zero, sub-zero}
+use lib.Dec.{ltb}
+use lib.ListN.{length}
+use borrow.Author.Tests.{lt-ltb, ltb-true, eq-eqb, ne-eqb}
+use Rattle.record.specs.Fits.{Bytes}
+use Rattle.area.specs.Loop.{Loop, loopOf, areaOf, judgeOf, size, link, Sound-loop, Holds}
+use Rattle.area.specs.Lookup.{oldestOf}
+use Rattle.area.specs.declared.Oldest.{Oldest}
+use Rattle.area.specs.declared.Place.{Place}
+use Rattle.area.proofs.Links.{some-frame}
+use Rattle.area.proofs.Areas.{area-holds, loop-good, holds-of}
+use Rattle.calls.specs.Outcome.{Outcome, refuse, done, afterOf, Is, loopAfter}
+use Rattle.calls.specs.Calls.{noDevice, full, hasRoom, noHop, hopAnswer, sentBy, passed, hopFrom, hopIn}
+use Rattle.calls.specs.Drain.{noHopLeft, budgetSpent, byteHanded, noDrain, canFrom, canHop, highest, stopped}
+use Rattle.calls.specs.Drain.{handedTo, turned, drainFrom, drainIn}
+use Rattle.calls.specs.Owed.{owed}
+use Rattle.calls.specs.Laws.{HopPays}
+use Rattle.calls.specs.declared.HopAnswer.{HopAnswer}
+use Rattle.calls.specs.declared.DrainAnswer.{DrainAnswer}
+use Rattle.calls.proofs.Kept.{hop-keeps}
+use Rattle.calls.proofs.Owing.{owed-moved}
+
+-- the area after a call
+pub after-area : {A : Type 0} (deny : ℕ → A) (l : Loop) (a : List ℕ) (o : Outcome A) → a ≡ areaOf l →
+    afterOf deny a o .area ≡ areaOf (loopAfter l o)
+after-area deny l a (refuse k) h = h
+after-area deny l a (done r m) h = refl
+
+-- ---- who can hop
+
+pub can-empty : (i : ℕ) (l : Loop) → oldestOf (link l i) ≡ Oldest.Empty → canHop i l ≡ false
+unfolding canHop
+can-empty i l e = ap (canFrom i l) e
+
+pub can-is : (i f : ℕ) (l : Loop) → oldestOf (link l i) ≡ Oldest.Frame f → canHop i l ≡ hasRoom (suc i) l
+unfolding canHop
+can-is i f l e = ap (canFrom i l) e
+
+pub highest-found : (k : ℕ) (l : Loop) → 0 < k → canHop (k - 1) l ≡ true → highest k l ≡ Place.At (k - 1)
+unfolding highest
+highest-found zero l h t = absurd (not-suc-le-zero h)
+highest-found (suc k) l h t = let e : suc k - 1 ≡ k = omega arith in rw (e, rw e at t)
+
+pub highest-next : (k : ℕ) (l : Loop) → 0 < k → canHop (k - 1) l ≡ false → highest k l ≡ highest (k - 1) l
+unfolding highest
+highest-next zero l h t = absurd (not-suc-le-zero h)
+highest-next (suc k) l h t = let e : suc k - 1 ≡ k = omega arith in rw (e, rw e at t)
+
+pub highest-none : (l : Loop) → highest 0 l ≡ Place.NoDevice
+unfolding highest
+highest-none l = refl
+
+-- ---- a hop pays
+
+passed-pays : (i f : ℕ) (l : Loop) → Sound-loop l → i < size l → oldestOf (link l i) ≡ Oldest.Frame f →
+    owed (passed i f l .links) + 1 ≡ owed (l .links)
+passed-pays i f l s h e = owed-moved (l .links) i (sentBy i f l .frame) (omega (arith, s .ends))
+    (some-frame (link l i) f e)
+
+pub can-pays : (i : ℕ) (l : Loop) → Sound-loop l → i < size l → canHop i l ≡ true →
+    owed (loopAfter l (hopIn i l) .links) + 1 ≡ owed (l .links)
+unfolding hopIn canHop
+can-pays i l s h t = go (oldestOf (link l i)) refl t
+  where
+    go : (o : Oldest) → oldestOf (link l i) ≡ o → canFrom i l o ≡ true →
+        owed (loopAfter {A = HopAnswer} l (cond (ltb i (size l)) (hopFrom i l o) (refuse noDevice)) .links) + 1 ≡ owed
+        (l .links)
+    go Oldest.Empty e c = let z : _≡_ {A = ℕ} 0 1 = cc in let y : ⊥ = omega arith in absurd y
+    go (Oldest.Frame f) e c = rw (lt-ltb _ _ h, c) (passed-pays i f l s h e)
+
+-- ---- the drain
+
+module _ (h : ℕ) (l : Loop) where
+  pub drain-none : (b : ℕ) → highest (size l) l ≡ Place.NoDevice → drainFrom b h l ≡ stopped noHopLeft h l
+  unfolding drainFrom
+  drain-none zero e = rw e
+  drain-none (suc b) e = rw e
+
+  pub drain-spent : (b i : ℕ) → b ≡ 0 → highest (size l) l ≡ Place.At i → drainFrom b h l ≡ stopped budgetSpent h l
+  unfolding drainFrom
+  drain-spent b i z e = rw (z, e)
+
+  pub drain-turn : (b i : ℕ) → 0 < b → highest (size l) l ≡ Place.At i →
+      drainFrom b h l ≡ turned i (h + 1) (drainFrom (b - 1) (h + 1)) l (hopIn i l)
+  unfolding drainFrom
+  drain-turn zero i z e = absurd (not-suc-le-zero z)
+  drain-turn (suc b) i z e = let k : suc b - 1 ≡ b = omega arith in rw (e, k, add-one)
+
+-- after a hop that answers r: a byte was handed over, or not
+module _ (a : List ℕ) (i h : ℕ) (next : Loop → Outcome DrainAnswer) (l : Loop) (r : HopAnswer) where
+  pub turned-stop : (o : Outcome HopAnswer) → r ≡ afterOf noHop a o .answer → r .handed ≡ 1 →
+      turned i h next l o ≡ handedTo i h r (loopAfter l o)
+  turned-stop (refuse k) e t = let x : _≡_ {A = ℕ} 0 1 = sym (ap (λ (q : HopAnswer). q .handed) e)
+      ∙ t in let y : ⊥ = omega arith in absurd y
+  turned-stop (done q m) e t = rw (eq-eqb (q .handed) 1 (sym (ap (λ (q : HopAnswer). q .handed) e) ∙ t), e)
+
+  pub turned-on : (o : Outcome HopAnswer) → r ≡ afterOf noHop a o .answer → (r .handed ≡ 1 → ⊥) →
+      turned i h next l o ≡ next (loopAfter l o)
+  turned-on (refuse k) e t = refl
+  turned-on (done q m) e t = rw (ne-eqb (q .handed) 1 (λ z. t (ap (λ (q : HopAnswer). q .handed) e ∙ z)))
+
+-- ---- turns on an area
+
+-- before a turn of a drain of area a₀, with a budget of b: n devices, h hops made, each of which paid one owed, and
+-- what is left to do
+pub record Turn (a₀ a : List ℕ) (b n h : ℕ) : Type 0 where
+  pub holds : Holds a (loopOf a)
+  pub sound : Sound-loop (loopOf a)
+  pub count : n ≡ size (loopOf a)
+  pub within : h ≤ b
+  pub long : length a ≡ length a₀
+  pub paid : h + owed (loopOf a .links) ≡ owed (loopOf a₀ .links)
+  pub rest : drainFrom b 0 (loopOf a₀) ≡ drainFrom (b - h) h (loopOf a)
+
+pub first-turn : (a : List ℕ) (b n : ℕ) → Bytes a → judgeOf a ≡ 0 → n ≡ size (loopOf a) → Turn a a b n 0
+first-turn a b n small h e =
+    record {
+      holds = area-holds a small h;
+      sound = loop-good a small h;
+      count = e;
+      within = omega arith;
+      long = refl;
+      paid = omega arith;
+      rest = rw sub-zero;
+    }
+
+-- what the drain of a₀ answers
+abbrev pub Drains : List ℕ → ℕ → DrainAnswer → List ℕ → Type 0
+Drains a₀ b r x = Is (afterOf noDrain a₀ (drainIn b (loopOf a₀))) r x
+
+module _ (a₀ a : List ℕ) (b n h : ℕ) (t : Turn a₀ a b n h) where
+  -- it stops before a hop
+  module _ (d y z : ℕ) (none : (d ≡ 0) × (y ≡ 0) × (z ≡ 0)) where
+    pub none-left : highest n (loopOf a) ≡ Place.NoDevice →
+        Drains a₀ b (record { hops = h; refusal = 0; reason = noHopLeft; device = d; byte = y; end = z }) a
+    none-left e =
+        rw (t .rest ∙ drain-none h (loopOf a) (b - h) (rw (t .count) at e), none .0, none .1, none .2)
+        (refl, t .holds .written)
+
+    pub none-more : (i : ℕ) → highest n (loopOf a) ≡ Place.At i → h ≡ b →
+        Drains a₀ b (record { hops = h; refusal = 0; reason = budgetSpent; device = d; byte = y; end = z }) a
+    none-more i e k =
+        rw (
+          t .rest ∙ drain-spent h (loopOf a) (b - h) i (omega arith) (rw (t .count) at e),
+          none .0,
+          none .1,
+          none .2,
+        ) (refl, t .holds .written)
+
+  -- or device i hops
+  module _ (i : ℕ) (found : highest n (loopOf a) ≡ Place.At i) (there : i < n) (can : canHop i (loopOf a) ≡ true)
+      (more : h ≡ b → ⊥)
+      (r : HopAnswer) (x : List ℕ) (is : Is (afterOf noHop a (hopIn i (loopOf a))) r x) where
+    abbrev l : Loop
+    l = loopOf a
+
+    abbrev m : Loop
+    m = loopAfter l (hopIn i l)
+
+    left : Holds x m
+    left =
+        rw (is .1 ∙ after-area noHop l a (hopIn i l) (t .holds .written)) (holds-of m (hop-keeps i l (t .sound) .sound))
+
+    turn : drainFrom b 0 (loopOf a₀) ≡ turned i (h + 1) (drainFrom (b - h - 1) (h + 1)) l (hopIn i l)
+    turn = t .rest ∙ drain-turn h l (b - h) i (omega (arith, t .within)) (rw (t .count) at found)
+
+    pub handed-over : r .handed ≡ 1 →
+        Drains a₀ b (record {
+          hops = h + 1;
+          refusal = 0;
+          reason = byteHanded;
+          device = i;
+          byte = r .byte;
+          end = r .end;
+        }) x
+    handed-over e =
+        rw (turn ∙ turned-stop a i (h + 1) (drainFrom (b - h - 1) (h + 1)) l r (hopIn i l) (is .0) e)
+        (refl, left .written)
+
+    pub next-turn : (r .handed ≡ 1 → ⊥) → length x ≡ length a → Turn a₀ x b n (h + 1)
+    next-turn e k =
+        let s = hop-keeps i l (t .sound) in
+        let p = can-pays i l (t .sound) (rw (t .count) at there) can in
+        let d : b - (h + 1) ≡ b - h - 1 = omega arith in
+        let f : loopOf x ≡ m = left .held in
+        record {
+          holds = rw f left;
+          sound = rw f (s .sound);
+          count = rw f (t .count ∙ sym (s .same));
+          within = omega (arith, t .within);
+          long = k ∙ t .long;
+          paid = rw f (omega (arith, t .paid));
+          rest = rw (f, d) (turn ∙ turned-on a i (h + 1) (drainFrom (b - h - 1) (h + 1)) l r (hopIn i l) (is .0) e);
+        }
+
+-- ---- any hop that is not refused pays
+
+pub hop-pays : HopPays
+unfolding hopIn
+hop-pays i l m r s e = there (ltb i (size l)) refl (oldestOf (link l i)) refl e
+  where
+    room : (f : ℕ) → i < size l → oldestOf (link l i) ≡ Oldest.Frame f → (t : Bool) →
+        _≡_ {A = Outcome HopAnswer}
+        (cond t (done (hopAnswer (sentBy i f l .frame) (sentBy i f l .handed)) (passed i f l)) (refuse full))
+        (done r m) →
+        owed (m .links) + 1 ≡ owed (l .links)
+    room f h o true d = let k : m ≡ passed i f l = cc in rw k (passed-pays i f l s h o)
+    room f h o false d = let z : _≡_ {A = ℕ} 0 1 = cc in let y : ⊥ = omega arith in absurd y
+
+    there : (t : Bool) → ltb i (size l) ≡ t → (o : Oldest) → oldestOf (link l i) ≡ o →
+        cond t (hopFrom i l o) (refuse noDevice) ≡ done r m → owed (m .links) + 1 ≡ owed (l .links)
+    there false q o p d = let z : _≡_ {A = ℕ} 0 1 = cc in let y : ⊥ = omega arith in absurd y
+    there true q Oldest.Empty p d = let z : _≡_ {A = ℕ} 0 1 = cc in let y : ⊥ = omega arith in absurd y
+    there true q (Oldest.Frame f) p d = room f (ltb-true _ _ q) p (hasRoom (suc i) l) d

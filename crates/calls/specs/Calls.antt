@@ -1,0 +1,113 @@
+-- Put, take, hop and the local calls (01, The calls), each on a loop and then on an area, with its refusals in 01's
+-- order.
+use Prim.Native.Nat.{ℕ, suc}
+use mathlib.Core.List.{List}
+use mathlib.Core.Bool.{Bool, cond}
+use lib.Dec.{ltb, eqb}
+use lib.ListN.{length}
+use Rattle.frame.specs.Messages.{frames}
+use Rattle.frame.specs.Coding.{badFrame}
+use Rattle.device.specs.Take.{takes}
+use Rattle.local.specs.Local.{loads, setsStatus, wishes}
+use Rattle.device.specs.declared.Device.{Device}
+use Rattle.device.specs.declared.Handed.{Handed}
+use Rattle.device.specs.declared.Handed.the-variants as handed
+use Rattle.device.specs.declared.Sent.{Sent}
+use Rattle.local.specs.declared.Called.{Called}
+use Rattle.area.specs.Sizes.{depth}
+use Rattle.area.specs.Loop.{Loop, size, device, link}
+use Rattle.area.specs.Lookup.{oldestOf, setDevice, add, remove}
+use Rattle.area.specs.declared.Oldest.{Oldest}
+use Rattle.calls.specs.Outcome.{Outcome, refuse, done, After, callOf}
+use Rattle.calls.specs.declared.HopAnswer.{HopAnswer}
+use Rattle.calls.specs.declared.TakeAnswer.{TakeAnswer}
+
+-- refusals: no such device, nothing to take, no room
+abbrev pub noDevice : ℕ
+noDevice = 3
+
+abbrev pub empty : ℕ
+empty = 5
+
+abbrev pub full : ℕ
+full = 6
+
+-- link j has room for a frame
+abbrev pub hasRoom : ℕ → Loop → Bool
+hasRoom j l = ltb (length (link l j)) depth
+
+-- the answer of a call that answers its refusal alone
+abbrev pub refusal : ℕ → ℕ
+refusal k = k
+
+-- ---- put: a frame of any kind into link 0
+
+unfoldable pub putIn : ℕ → Loop → Outcome ℕ
+putIn f l = cond (ltb f frames) (cond (hasRoom 0 l) (done 0 (add 0 f l)) (refuse full)) (refuse badFrame)
+
+-- ---- take: the tail's oldest frame comes out
+
+abbrev pub noTake : ℕ → TakeAnswer
+noTake k = record { frame = 0; refusal = k }
+
+abbrev pub takeFrom : Loop → Oldest → Outcome TakeAnswer
+takeFrom l Oldest.Empty = refuse empty
+takeFrom l (Oldest.Frame f) = done (record { frame = f; refusal = 0 }) (remove (size l) l)
+
+unfoldable pub takeIn : Loop → Outcome TakeAnswer
+takeIn l = takeFrom l (oldestOf (link l (size l)))
+
+-- ---- hop: device i takes its oldest frame and sends one
+
+abbrev pub noHop : ℕ → HopAnswer
+noHop k = record { frame = 0; refusal = k; handed = 0; byte = 0; end = 0 }
+
+-- the numbers of a hop that sent f, for each case of what was handed over
+abbrev pub hopAnswer : ℕ → Handed → HopAnswer
+hopAnswer f handed.Nothing = record { frame = f; refusal = 0; handed = 0; byte = 0; end = 0 }
+hopAnswer f (handed.Byte b e) = record { frame = f; refusal = 0; handed = 1; byte = b; end = e }
+
+-- what device i does with frame f
+abbrev pub sentBy : ℕ → ℕ → Loop → Sent
+sentBy i f l = takes (device l i) f
+
+-- the loop after device i took f, its oldest frame, and sent one on
+abbrev pub passed : ℕ → ℕ → Loop → Loop
+passed i f l = add (suc i) (sentBy i f l .frame) (remove i (setDevice i (sentBy i f l .device) l))
+
+abbrev pub hopFrom : ℕ → Loop → Oldest → Outcome HopAnswer
+hopFrom i l Oldest.Empty = refuse empty
+hopFrom i l (Oldest.Frame f) =
+    cond (hasRoom (suc i) l) (done (hopAnswer (sentBy i f l .frame) (sentBy i f l .handed)) (passed i f l))
+    (refuse full)
+
+unfoldable pub hopIn : ℕ → Loop → Outcome HopAnswer
+hopIn i l = cond (ltb i (size l)) (hopFrom i l (oldestOf (link l i))) (refuse noDevice)
+
+-- ---- local calls: device i is called, and refuses or becomes another
+
+abbrev pub calledIn : ℕ → Loop → Called → Outcome ℕ
+calledIn i l c = cond (eqb (c .refusal) 0) (done 0 (setDevice i (c .device) l)) (refuse (c .refusal))
+
+unfoldable pub localIn : (Device → Called) → ℕ → Loop → Outcome ℕ
+localIn call i l = cond (ltb i (size l)) (calledIn i l (call (device l i))) (refuse noDevice)
+
+-- ---- the calls on areas
+
+abbrev pub putOf : List ℕ → ℕ → After ℕ
+putOf a f = callOf refusal (putIn f) a
+
+abbrev pub takeOf : List ℕ → After TakeAnswer
+takeOf a = callOf noTake takeIn a
+
+abbrev pub hopOf : List ℕ → ℕ → After HopAnswer
+hopOf a i = callOf noHop (hopIn i) a
+
+abbrev pub loadOf : List ℕ → ℕ → List ℕ → After ℕ
+loadOf a i bs = callOf refusal (localIn (λ d. loads d bs) i) a
+
+abbrev pub statusOf : List ℕ → ℕ → ℕ → After ℕ
+statusOf a i s = callOf refusal (localIn (λ d. setsStatus d s) i) a
+
+abbrev pub wishOf : List ℕ → ℕ → ℕ → After ℕ
+wishOf a i w = callOf refusal (localIn (λ d. wishes d w) i) a

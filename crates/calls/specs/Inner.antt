@@ -1,0 +1,32 @@
+-- What inner functions ask of their callers: facts that a lookup or a test has shown.
+use Prim.Native.Nat.{ℕ, suc, _*_, _≤_}
+use mathlib.Core.Path.{_≡_}
+use mathlib.Core.Bool.{true}
+use mathlib.Core.List.{List}
+use lib.ListN.{length}
+use Rattle.record.specs.Sound.{allowed}
+use Rattle.area.specs.Sizes.{mostDevices, itemSize, areaSize}
+use Rattle.area.specs.Parts.{all}
+use Rattle.area.specs.Loop.{loopOf, link, HasDevice}
+use Rattle.area.specs.Lookup.{oldestOf, roomOf}
+use Rattle.area.specs.declared.Oldest.{Oldest}
+use Rattle.area.specs.declared.Room.{Room}
+use Rattle.calls.specs.SetUp.{itemsOf}
+
+-- device i has this oldest frame, and room behind so many for the frame that it sends
+pub record Passes (a : List ℕ) (i f n : ℕ) : Type 0 where
+  pub has : HasDevice a i
+  pub oldest : oldestOf (link (loopOf a) i) ≡ Oldest.Frame f
+  pub room : roomOf (link (loopOf a) (suc i)) ≡ Room.Behind n
+
+-- an area of n devices and n items
+pub record Fit (n : ℕ) (a b : List ℕ) : Type 0 where
+  pub some : 1 ≤ n
+  pub few : n ≤ mostDevices
+  pub area : length a ≡ areaSize n
+  pub items : length b ≡ itemSize * n
+
+-- and each item is allowed
+pub record Sets (n : ℕ) (a b : List ℕ) : Type 0 where
+  pub fit : Fit n a b
+  pub each : all allowed (itemsOf n b) ≡ true

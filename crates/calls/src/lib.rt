@@ -1,0 +1,35 @@
+// What the calls answer to a caller in C, and the refusals that they give of themselves; those of an area, a frame and
+// a device stand in their crates. What each call does is said in specs/, and done in the crates above.
+pub const NO_DEVICE: u8 = 3;
+
+pub const EMPTY: u8 = 5;
+
+pub const FULL: u8 = 6;
+
+// The frame sent and, where `handed` is 1, the byte handed with its end bit.
+#[repr(C)]
+pub struct HopAnswer {
+    pub frame: u16,
+    pub refusal: u8,
+    pub handed: u8,
+    pub byte: u8,
+    pub end: u8,
+}
+
+// The frame taken.
+#[repr(C)]
+pub struct TakeAnswer {
+    pub frame: u16,
+    pub refusal: u8,
+}
+
+// The hops made and why there are no more; for reason 2 the device, the byte handed to it and its end bit.
+#[repr(C)]
+pub struct DrainAnswer {
+    pub hops: u32,
+    pub refusal: u8,
+    pub reason: u8,
+    pub device: u8,
+    pub byte: u8,
+    pub end: u8,
+}

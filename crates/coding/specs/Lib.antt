@@ -1,0 +1,2 @@
+-- The decoder's and the encoder's answers.
+pub mod Coding

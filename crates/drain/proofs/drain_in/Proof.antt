@@ -1,0 +1,163 @@
+-- Each turn is one of the definition's: the search finds the highest device that can hop, and its hop pays one of the
+-- hops owed.
+use Prim.Native.Nat.{_≤_, _-_, _<_}
+use mathlib.Core.Path.{_≡_, refl, sym, _∙_}
+use mathlib.Core.Bool.{true}
+use native.Mathlib.Omega.{arith}
+use Rattle.area.specs.Loop.{loopOf}
+use Rattle.area.specs.declared.Place.{Place}
+use Rattle.area.proofs.Areas.{loop-good}
+use Rattle.calls.specs.Drain.{canHop, highest}
+use Rattle.calls.proofs.Laws.{owed-at-most}
+use Rattle.calls.proofs.Turns.{Turn, first-turn, none-left, none-more, handed-over, next-turn, highest-found}
+use Rattle.calls.proofs.Turns.{highest-next, highest-none}
+use borrow.Author.Needs.{needs}
+use Rattle.drain.proofs.drain_in.Statement.{statement}
+use Rattle.drain.proofs.drain_in.Tie as tie
+
+abbrev Inv-search : tie.InvT-search
+Inv-search area budget n hops device byte end i₀ i = (i ≤ n) × (highest n (loopOf area) ≡ highest i (loopOf area))
+
+abbrev μ-search : tie.MeasureT-search
+μ-search area budget n hops device byte end i₀ i = i
+
+abbrev Inv-turns : tie.InvT-turns
+Inv-turns area₀ budget n hops₀ device₀ byte₀ end₀ area hops device byte end = Turn area₀ area budget n hops ×
+    (device ≡ 0) × (byte ≡ 0) × (end ≡ 0)
+
+abbrev μ-turns : tie.MeasureT-turns
+μ-turns area₀ budget n hops₀ device₀ byte₀ end₀ area hops device byte end = budget - hops
+
+-- the device found is the highest that can hop
+found : (c : tie.Then2 Inv-search μ-search Inv-turns μ-turns) →
+    let q = c .before .before .before .before in let t = q .before in let i = q .search .i - 1 in
+    (highest (t .before .devices-in .result) (loopOf (t .turns .area)) ≡ Place.At i) ×
+    (i < t .before .devices-in .result) × (canHop i (loopOf (t .turns .area)) ≡ true)
+found c = let q = c .before .before .before .before in let can = sym (c .before .can-hop .ensures) ∙ c .if2 .taken in (
+  q .search .inv .1 ∙ highest-found (q .search .i) (loopOf (q .before .turns .area))
+      (omega (arith, c .before .before .before .if1 .left)) can,
+  omega (arith, q .search .inv .0, c .before .before .before .if1 .left),
+  can,
+)
+
+devices-in-requires : tie.Need-devices-in-requires Inv-search μ-search Inv-turns μ-turns
+devices-in-requires c κs = c .before .before .pre
+
+turns-holds : tie.Need-turns-holds Inv-search μ-search Inv-turns μ-turns
+turns-holds c = let s = c .before .before .before in (
+  first-turn (s .args .area .now) (s .args .budget) _ (λ i. c .before .before .slice-known .given i .fits) (s .pre)
+      (c .devices-in .ensures .0),
+  refl,
+  refl,
+  refl,
+)
+
+search-holds : tie.Need-search-holds Inv-search μ-search Inv-turns μ-turns
+search-holds c = (omega arith, refl)
+
+can-hop-requires : tie.Need-can-hop-requires Inv-search μ-search Inv-turns μ-turns
+can-hop-requires c κs = let t = c .before .before .before .turns .inv .0 in
+    record {
+      judged = t .holds .judged;
+      there = omega
+          (arith, t .count, c .before .before .search .inv .0, c .before .if1 .left);
+    }
+
+search-again : tie.Need-search-again Inv-search μ-search Inv-turns μ-turns
+search-again c = (
+  omega arith,
+  c .before .before .before .before .search .inv .1
+      ∙ highest-next (c .before .before .before .before .search .i)
+      (loopOf (c .before .before .before .before .before .turns .area)) (omega arith)
+      (sym (c .before .can-hop .ensures) ∙ c .if2 .left),
+)
+
+hop-at-requires : tie.Need-hop-at-requires Inv-search μ-search Inv-turns μ-turns
+hop-at-requires c κs = let t = c .before .before .before .before .before .before .before .turns .inv .0 in
+    record { judged = t .holds .judged; there = omega (arith, t .count, found (c .before .before) .1) }
+
+add-hops : tie.Need-add-hops Inv-search μ-search Inv-turns μ-turns
+add-hops c = let s = c .before .before .before .before .before .before .before .before .before .before .before .before .before .before in let a = s .args .area .now in
+    omega (arith, c .before .before .before .before .before .before .before .before .before .before .turns .inv .0 .paid, owed-at-most (loopOf a) (loop-good a (λ i. c .before .before .before .before .before .before .before .before .before .before .before .before .before .slice-known .given i .fits) (s .pre)))
+
+cast-device : tie.Need-cast-device Inv-search μ-search Inv-turns μ-turns
+cast-device c = omega (
+  arith,
+  found (c .before .before .before .before .before .before .before) .1,
+  c .before .before .before .before .before .before .before .before .before .before .before .before .before .devices-in .ensures,
+)
+
+turns-less : tie.Need-turns-less Inv-search μ-search Inv-turns μ-turns
+turns-less c = omega (
+  arith,
+  c .before .before .before .before .before .before .before .before .before .before .before .before .turns .inv .0 .within,
+  c .before .before .before .before .before .before .if3 .left,
+)
+
+turns-again : tie.Need-turns-again Inv-search μ-search Inv-turns μ-turns
+turns-again c = let t =
+    c .before .before .before .before .before .before .before .before .before .before .before .before .turns in let p = c .before .before .before .before .hop-at in let f = found (c .before .before .before .before .before .before .before) in (
+      next-turn _ (t .area) _ _ (t .hops) (t .inv .0)
+          (c .before .before .before .before .before .before .before .before .before .before .before .search .i - 1)
+          (f .0) (f .1) (f .2) (c .before .before .before .before .before .before .if3 .left) (p .result) _
+          (p .ensures) (c .if4 .left) (p .kept .0),
+      t .inv .1,
+      t .inv .2,
+      t .inv .3,
+    )
+
+same-length : tie.Need-same-length Inv-search μ-search Inv-turns μ-turns
+same-length c = c .before .before .turns .inv .0 .long
+
+returns : tie.Need-returns Inv-search μ-search Inv-turns μ-turns
+returns c = let t = c .before .before .turns in
+    none-left _ (t .area) _ _ (t .hops) (t .inv .0) (t .device) (t .byte) (t .end) (t .inv .1, t .inv .2, t .inv .3)
+    (c .before .search .inv .1 ∙ rw (c .if1 .taken) (highest-none (loopOf (t .area))))
+
+same-length-2 : tie.Need-same-length-2 Inv-search μ-search Inv-turns μ-turns
+same-length-2 c = c .before .before .before .before .before .before .turns .inv .0 .long
+
+returns-2 : tie.Need-returns-2 Inv-search μ-search Inv-turns μ-turns
+returns-2 c = let t = c .before .before .before .before .before .before .turns in
+    none-more _ (t .area) _ _ (t .hops) (t .inv .0) (t .device) (t .byte) (t .end) (t .inv .1, t .inv .2, t .inv .3) _
+    (found (c .before) .0) (c .if3 .taken)
+
+same-length-3 : tie.Need-same-length-3 Inv-search μ-search Inv-turns μ-turns
+same-length-3 c = c .before .before .before .before .hop-at .kept .0
+    ∙ c .before .before .before .before .before .before .before .before .before .before .before .before .turns .inv .0 .long
+
+returns-3 : tie.Need-returns-3 Inv-search μ-search Inv-turns μ-turns
+returns-3 c = let t =
+    c .before .before .before .before .before .before .before .before .before .before .before .before .turns in let p = c .before .before .before .before .hop-at in let f = found (c .before .before .before .before .before .before .before) in
+    handed-over _ (t .area) _ _ (t .hops) (t .inv .0)
+    (c .before .before .before .before .before .before .before .before .before .before .before .search .i - 1)
+    (f .0) (f .1) (f .2) (c .before .before .before .before .before .before .if3 .left) (p .result) _
+    (p .ensures) (c .if4 .taken)
+
+pub drain-in-spec : {M : Type 1} → statement M
+drain-in-spec =
+    tie.close
+    (tie.spec
+    Inv-search
+    μ-search
+    Inv-turns
+    μ-turns
+    devices-in-requires
+    turns-holds
+    search-holds
+    (λ c. search needs)
+    can-hop-requires
+    (λ c. search needs)
+    search-again
+    (λ c. search needs)
+    hop-at-requires
+    add-hops
+    cast-device
+    turns-less
+    turns-again
+    same-length
+    returns
+    same-length-2
+    returns-2
+    same-length-3
+    returns-3)

@@ -1,0 +1,91 @@
+// Whether an area's contents are sound, in one pass over its bytes: its header, its records, its links.
+use area::DEPTH;
+use area::HEADER_SIZE;
+use area::LINK_SIZE;
+ghost use mathlib.Core.Path.{_≡_};
+ghost use Prim.Native.Nat.{_*_, _≤_};
+ghost use lib.ListN.{length};
+ghost use Rattle.device.specs.PowerOn.{bytesFrom};
+ghost use Rattle.record.specs.Record.{recordSize, zeros};
+ghost use Rattle.record.specs.Sound.{soundRecord};
+ghost use Rattle.area.specs.Sizes.{headerSize, linkSize};
+ghost use Rattle.area.specs.Parts.{parts, all};
+ghost use Rattle.area.specs.Link.{soundSlot, soundLink};
+ghost use Rattle.area.specs.Loop.{Shaped, sound};
+
+fn records_sound(records: &[u8], n: usize) -> bool
+    requires { ⌜ recordSize * n ≤ length (now records) ⌝ }
+    ensures { λ r. ⌜ r ≡ all soundRecord (parts recordSize n (now (records .entry))) ⌝ }
+{
+    let mut rest = &records[..];
+    let mut left = n;
+    while left > 0 {
+        if !sound::record_sound(&rest[..record::SIZE]) {
+            return false;
+        }
+        rest = &rest[record::SIZE..];
+        left -= 1;
+    }
+    true
+}
+
+// Whether the k-th number of a link that holds n frames is a frame, or else 0.
+fn slot_sound(n: u8, k: u8, f: u16) -> bool
+    ensures { λ r. ⌜ r ≡ soundSlot n k f ⌝ }
+{
+    if k < n {
+        f < frame::FRAMES as u16
+    } else {
+        f == 0
+    }
+}
+
+fn link_sound(link: &[u8]) -> bool
+    requires { ⌜ length (now link) ≡ linkSize ⌝ }
+    ensures { λ r. ⌜ r ≡ soundLink (now (link .entry)) ⌝ }
+{
+    let n = link[0];
+    (n <= DEPTH as u8)
+        & ((link[1] == 0)
+            & (slot_sound(n, 0, record::word_at(link, 2))
+                & (slot_sound(n, 1, record::word_at(link, 4))
+                    & (slot_sound(n, 2, record::word_at(link, 6))
+                        & slot_sound(n, 3, record::word_at(link, 8))))))
+}
+
+fn links_sound(links: &[u8], n: usize) -> bool
+    requires { ⌜ linkSize * n ≤ length (now links) ⌝ }
+    ensures { λ r. ⌜ r ≡ all soundLink (parts linkSize n (now (links .entry))) ⌝ }
+{
+    let mut rest = &links[..];
+    let mut left = n;
+    while left > 0 {
+        if !link_sound(&rest[..LINK_SIZE]) {
+            return false;
+        }
+        rest = &rest[LINK_SIZE..];
+        left -= 1;
+    }
+    true
+}
+
+// Bytes 1 to 7 are zero.
+fn header_sound(area: &[u8]) -> bool
+    requires { ⌜ headerSize ≤ length (now area) ⌝ }
+    ensures { λ r. ⌜ r ≡ zeros (bytesFrom 1 7 (now (area .entry))) ⌝ }
+{
+    (area[1] == 0)
+        & ((area[2] == 0)
+            & ((area[3] == 0)
+                & ((area[4] == 0) & ((area[5] == 0) & ((area[6] == 0) & (area[7] == 0))))))
+}
+
+pub fn contents_sound(area: &[u8]) -> bool
+    requires { ⌜ Shaped (now area) ⌝ }
+    ensures { λ r. ⌜ r ≡ sound (now (area .entry)) ⌝ }
+{
+    let n = area[0] as usize;
+    let links = HEADER_SIZE + record::SIZE * n;
+    header_sound(area)
+        & (records_sound(&area[HEADER_SIZE..], n) & links_sound(&area[links..], n + 1))
+}

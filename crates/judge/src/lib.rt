@@ -1,0 +1,34 @@
+// An area's refusal as such: its shape, then its contents.
+mod contents;
+
+use crate::contents::contents_sound;
+use area::MOST_DEVICES;
+use area::SHAPE;
+use area::UNSOUND;
+use area::area_size;
+ghost use mathlib.Core.Path.{_≡_};
+ghost use Rattle.area.specs.Loop.{shaped, judgeOf};
+
+// The length is that of byte 0.
+fn shape_right(area: &[u8]) -> bool
+    ensures { λ r. ⌜ r ≡ shaped (now (area .entry)) ⌝ }
+{
+    if area.len() == 0 {
+        return false;
+    }
+    let n = area[0] as usize;
+    (1 <= n) & ((n <= MOST_DEVICES) & (area.len() == area_size(n)))
+}
+
+// An area's refusal, 0 for none.
+pub fn judge(area: &[u8]) -> u8
+    ensures { λ r. ⌜ r ≡ judgeOf (now (area .entry)) ⌝ }
+{
+    if !shape_right(area) {
+        return SHAPE;
+    }
+    if !contents_sound(area) {
+        return UNSOUND;
+    }
+    0
+}

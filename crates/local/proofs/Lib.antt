@@ -1,0 +1,2 @@
+-- Arms has what a return follows from.
+mod Arms

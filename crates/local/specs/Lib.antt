@@ -1,0 +1,2 @@
+-- The local calls of a device.
+pub mod Local

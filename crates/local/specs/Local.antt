@@ -1,0 +1,46 @@
+-- The local calls of a device (01, The calls), refused with 7, 8, 9 in that order.
+use Prim.Native.Nat.{ℕ}
+use mathlib.Core.List.{List}
+use lib.Dec.{eqb, ltb}
+use lib.ListN.{length}
+use Rattle.device.specs.Choose.{choose}
+use Rattle.device.specs.Device.{sendData, status, serviceRequest, sendingData, noService, asking, mostData, has}
+use Rattle.device.specs.Change.{serving, loading, statusing}
+use Rattle.device.specs.declared.Device.{Device}
+use Rattle.local.specs.declared.Called.{Called}
+
+-- refusals: no ability, too long, busy
+abbrev pub noAbility : ℕ
+noAbility = 7
+
+abbrev pub tooLong : ℕ
+tooLong = 8
+
+abbrev pub busy : ℕ
+busy = 9
+
+abbrev pub accepted : Device → Called
+accepted d = record { refusal = 0; device = d }
+
+abbrev pub refused : ℕ → Device → Called
+refused k d = record { refusal = k; device = d }
+
+-- load: 0 to 32 bytes of data, of which none is sent
+unfoldable pub loads : Device → List ℕ → Called
+loads d bs =
+    choose (has d sendData)
+    (choose (ltb mostData (length bs)) (refused tooLong d)
+    (choose (eqb (d .talker) sendingData) (refused busy d)
+    (accepted (loading d bs))))
+    (refused noAbility d)
+
+-- status s
+unfoldable pub setsStatus : Device → ℕ → Called
+setsStatus d s = choose (has d status) (accepted (statusing d s)) (refused noAbility d)
+
+-- a wish for service: 0 is no and gives 0; any other number is yes, turns 0 into 1 and keeps 1 and 2
+unfoldable pub wishing : Device → ℕ → Device
+wishing d w = choose (eqb w 0) (serving d noService) (choose (eqb (d .service) noService) (serving d asking) d)
+
+unfoldable pub wishes : Device → ℕ → Called
+wishes d w = choose (has d serviceRequest) (accepted (wishing d w)) (refused noAbility d)

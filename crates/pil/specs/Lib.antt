@@ -1,9 +1,0 @@
--- The calls: what each does with a loop, and with an area; and the laws that they keep.
-pub mod Outcome
-pub mod Calls
-pub mod Drain
-pub mod SetUp
-pub mod Owed
-pub mod Coding
-pub mod Inner
-pub mod Laws

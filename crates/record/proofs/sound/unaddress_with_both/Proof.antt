@@ -1,7 +1,0 @@
--- `record::sound::unaddress_with_both` meets its contract: `talks` is what it ensures.
-use borrow.Author.Needs.{needs}
-use Rattle.record.proofs.sound.unaddress_with_both.Statement.{statement}
-use Rattle.record.proofs.sound.unaddress_with_both.Tie as tie
-
-pub unaddress-with-both-spec : {M : Type 1} → statement M
-unaddress-with-both-spec = tie.close (tie.spec (λ c κs. search needs) (λ c. rw (c .before .before .talks .ensures)))

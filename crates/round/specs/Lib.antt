@@ -1,0 +1,2 @@
+-- A frame sent right round.
+pub mod Round

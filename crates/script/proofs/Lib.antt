@@ -1,0 +1,3 @@
+-- The laws of scripts: lines read, and items filled in.
+pub mod Scripts
+pub mod Items

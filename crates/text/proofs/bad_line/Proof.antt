@@ -1,0 +1,40 @@
+-- The word, the number and the line's end stand one behind the other; a line's number has at most five digits.
+use native.Mathlib.Omega.{arith}
+use borrow.Author.Needs.{needs}
+use Rattle.text.proofs.Splices.{next}
+use Rattle.text.proofs.Numbers.{five-digits}
+use Rattle.text.proofs.bad_line.Statement.{statement}
+use Rattle.text.proofs.bad_line.Tie as tie
+
+decimal-requires : tie.Need-decimal-requires
+decimal-requires c κs =
+    let s = c .before .before .before .before .before .before .before in
+    omega (arith, five-digits (s .args .number) (s .pre .0), c .before .before .before .put .ensures .behind)
+
+put-requires-2 : tie.Need-put-requires-2
+put-requires-2 c κs =
+    let d = c .before .before .before .before in
+    let p = d .before .before .before .before in
+    let s = p .before .before .before .before in
+    omega (arith, five-digits (s .args .number) (s .pre .0), p .put .ensures .behind, d .decimal .ensures .behind)
+
+returns : tie.Need-returns
+returns c =
+    let e = c .before .before in
+    let d = e .before .before .before .before .before in
+    let p = d .before .before .before .before in
+    let s = p .before .before .before .before in
+    next (omega arith) (p .put .ensures)
+    (next (omega (arith, s .pre .1, p .put .ensures .behind, p .put .kept .0)) (d .decimal .ensures) (e .put2 .ensures))
+
+pub bad-line-spec : {M : Type 1} → statement M
+bad-line-spec =
+    tie.close
+    (tie.spec
+    (λ c. search needs)
+    (λ c κs. search needs)
+    decimal-requires
+    (λ c. search needs)
+    put-requires-2
+    (λ c. search needs)
+    returns)
