@@ -2,12 +2,12 @@
 -- back.
 use mathlib.Core.Path.{_≡_, refl, sym, ap, _∙_}
 use mathlib.Core.List.{List, [], _∷_, _++_, map, append-nil}
-use mathlib.Core.Bool.{Bool, true, false, _&&_, cond}
+use mathlib.Core.Bool.{Bool, true, false, cond}
 use Prim.Native.Nat.{ℕ, zero, suc, _+_, _*_, _≤_, _<_}
 use native.Mathlib.Omega.{arith}
 use native.Mathlib.Nat.{add-assoc}
 use lib.Seq.{getD-drop, take-all, drop-at, drop-drop}
-use lib.ListN.{length-append, length-map, length-drop, length-take, take-append-drop, List·getD-map, length, getD, take}
+use lib.ListN.{length-append, length-map, length-drop, take-append-drop, List·getD-map, length, getD, take}
 use lib.ListN.{drop, replicate, length-set}
 use lib.Dec.{eqb}
 use borrow.Author.Tests.{eqb-true, leb-true, le-leb, eq-eqb}

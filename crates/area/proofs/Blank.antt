@@ -1,6 +1,6 @@
 -- A blank area: devices and links that are all zero are written as zeros, and are sound.
 use mathlib.Core.Path.{_≡_, refl, sym, ap}
-use mathlib.Core.List.{List, [], _∷_, _++_, map}
+use mathlib.Core.List.{List, [], _∷_, map}
 use Prim.Native.Nat.{ℕ, zero, suc, _+_, _*_, _≤_}
 use native.Mathlib.Nat.{mul-suc, mul-zero, add-comm}
 use native.Mathlib.Omega.{arith}

@@ -1,13 +1,13 @@
 -- Something holds of each element of a list: it goes on to hold as the list is changed, cut from bytes or written out.
 use mathlib.Core.Path.{_≡_, refl}
 use mathlib.Core.List.{List, [], _∷_, _++_, map, tail}
-use mathlib.Core.Bool.{Bool, true, _&&_}
+use mathlib.Core.Bool.{Bool, true}
 use Prim.Native.Nat.{ℕ, zero, suc, _+_}
 use lib.ListN.{getD, take, drop, set, replicate}
 use lib.Seq.{getD-drop}
 use Rattle.record.specs.Fits.{Bytes}
 use Rattle.record.proofs.Both.{both-true, left, right}
-use Rattle.area.specs.Parts.{part, parts, all}
+use Rattle.area.specs.Parts.{parts, all}
 use Rattle.area.proofs.Parts.{bytes-part}
 
 module _ {A : Type 0} (P : A → Type 0) (d : A) where

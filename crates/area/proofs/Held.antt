@@ -5,13 +5,12 @@ use mathlib.Core.List.{List, _∷_, [], _++_, tail}
 use Prim.Native.Nat.{ℕ, _+_, _<_}
 use native.Mathlib.Omega.{arith}
 use lib.ListN.{length}
-use lib.Seq.{length-take-le}
 use Rattle.frame.specs.Messages.{frames}
 use Rattle.device.specs.declared.Device.{Device}
 use Rattle.record.specs.Record.{recordSize, deviceOf, recordOf}
 use Rattle.record.specs.Fits.{Bytes, Good}
 use Rattle.area.specs.Sizes.{linkSize, depth, recordAt, linkAt, Starts}
-use Rattle.area.specs.Link.{framesOf, linkOf, soundLink, IsLink, Frames}
+use Rattle.area.specs.Link.{framesOf, linkOf, IsLink, Frames}
 use Rattle.area.specs.Loop.{loopOf, size, device, link, Holds, HasDevice, HasLink}
 use Rattle.area.specs.Lookup.{setDevice, setLink, add, remove}
 use Rattle.area.proofs.Parts.{lent, given-back, lent-is, given-back-is}

@@ -1,10 +1,9 @@
 -- Every call keeps sound loops sound: a good device goes into a device's place, and frames below 2,048 into a link
 -- with room.
-use mathlib.Core.Path.{_≡_, refl, sym, ap, _∙_}
-use mathlib.Core.List.{List, [], _∷_, _++_, tail}
+use mathlib.Core.Path.{_≡_, refl, _∙_}
+use mathlib.Core.List.{[], _∷_, _++_, tail}
 use mathlib.Core.Bool.{Bool, true, false, cond}
 use Prim.Native.Nat.{ℕ, zero, suc, _<_}
-use native.Mathlib.Omega.{arith}
 use lib.Dec.{ltb, eqb}
 use lib.ListN.{length, length-set}
 use borrow.Author.Tests.{ltb-true}
@@ -15,15 +14,15 @@ use Rattle.local.specs.declared.Called.{Called}
 use Rattle.record.specs.Fits.{Good}
 use Rattle.keeps.proofs.Keeps.{take-good}
 use Rattle.area.specs.Sizes.{depth}
-use Rattle.area.specs.Loop.{Loop, size, areaOf, device, link, Sound-loop}
-use Rattle.area.specs.Lookup.{oldestOf, setDevice, setLink, add, remove}
+use Rattle.area.specs.Loop.{Loop, size, device, link, Sound-loop}
+use Rattle.area.specs.Lookup.{oldestOf, setDevice, add, remove}
 use Rattle.area.specs.declared.Oldest.{Oldest}
 use Rattle.area.specs.declared.Place.{Place}
 use Rattle.area.proofs.Links.{oldest-is, frames-less, frames-more}
 use Rattle.area.proofs.Areas.{device-kept, link-kept}
-use Rattle.calls.specs.Outcome.{Outcome, refuse, done, afterOf, loopAfter}
+use Rattle.calls.specs.Outcome.{Outcome, refuse, done, loopAfter}
 use Rattle.calls.specs.Calls.{noDevice, full, hasRoom, putIn, takeIn, takeFrom, hopAnswer, sentBy, passed, hopFrom}
-use Rattle.calls.specs.Calls.{hopIn, calledIn, localIn}
+use Rattle.calls.specs.Calls.{hopIn, localIn}
 use Rattle.calls.specs.Drain.{noHopLeft, budgetSpent, highest, stopped, handedTo, turned, onPlace, drainFrom}
 use Rattle.calls.specs.Laws.{Kept, PutKeeps, TakeKeeps, HopKeeps, Keeps, DrainKeeps}
 use Rattle.calls.specs.declared.HopAnswer.{HopAnswer}

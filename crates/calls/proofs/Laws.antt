@@ -1,7 +1,6 @@
 -- The laws of the calls: a contract leaves one answer, a call on an area is its call on the loop, every call keeps.
-use mathlib.Core.Path.{sym, ap, _∙_}
+use mathlib.Core.Path.{sym, _∙_}
 use native.Mathlib.Omega.{arith}
-use Prim.Native.Nat.{_≤_}
 use Rattle.keeps.proofs.Keeps.{load-good, status-good, wish-good}
 use Rattle.area.proofs.Areas.{holds-of}
 use Rattle.calls.specs.Outcome.{loopAfter}

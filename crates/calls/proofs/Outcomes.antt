@@ -13,14 +13,14 @@ use Rattle.frame.specs.Coding.{badFrame}
 use Rattle.device.specs.declared.Device.{Device}
 use Rattle.local.specs.declared.Called.{Called}
 use Rattle.area.specs.Sizes.{depth}
-use Rattle.area.specs.Loop.{Loop, size, loopOf, judgeOf, device, link, HasDevice}
+use Rattle.area.specs.Loop.{Loop, size, loopOf, judgeOf, device, link}
 use Rattle.area.specs.Lookup.{oldestOf, roomOf, placeOf, setLink, add, remove}
 use Rattle.area.specs.declared.Oldest.{Oldest}
 use Rattle.area.specs.declared.Room.{Room}
 use Rattle.area.specs.declared.Place.{Place}
 use Rattle.area.proofs.Links.{room-is}
 use Rattle.calls.specs.Outcome.{Outcome, refuse, done, after, afterOf, callOf, Is}
-use Rattle.calls.specs.Calls.{noDevice, empty, full, hasRoom, putIn, takeIn, takeFrom, hopAnswer, sentBy, passed}
+use Rattle.calls.specs.Calls.{noDevice, empty, full, putIn, takeIn, takeFrom, hopAnswer, sentBy, passed}
 use Rattle.calls.specs.Calls.{hopFrom, hopIn, calledIn, localIn}
 
 -- ---- any call
@@ -67,10 +67,6 @@ place-none l i h = go (ltb i (size l)) refl h
     go : (t : Bool) → ltb i (size l) ≡ t → cond t (Place.At i) Place.NoDevice ≡ Place.NoDevice → size l ≤ i
     go true e p = let z : _≡_ {A = ℕ} 0 1 = cc in let y : ⊥ = omega arith in absurd y
     go false e p = ltb-false _ _ e
-
--- a device that has a place is there
-pub has-place : (a : List ℕ) (i k : ℕ) → judgeOf a ≡ 0 → placeOf (loopOf a) i ≡ Place.At k → HasDevice a k
-has-place a i k h p = let q = place-at (loopOf a) i k p in record { judged = h; there = rw (q .1) (q .0) }
 
 -- ---- put and take
 
@@ -130,7 +126,6 @@ module _ (call : Device → Called) (i : ℕ) (l : Loop) where
   unfolding localIn
   local-none h = rw (le-ltb _ _ h)
 
-  pub local-done : (k : ℕ) (d : Device) (c : Called) → placeOf l i ≡ Place.At k → d ≡ device l k → c ≡ call d →
-      calledIn k l c ≡ localIn call i l
+  pub local-there : i < size l → localIn call i l ≡ calledIn i l (call (device l i))
   unfolding localIn
-  local-done k d c p e f = let q = place-at l i k p in rw (f, e, q .1, lt-ltb _ _ (q .0))
+  local-there h = rw (lt-ltb _ _ h)

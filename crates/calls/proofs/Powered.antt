@@ -1,12 +1,11 @@
 -- Set up: the area is blank, and then holds the first i items' devices and blank ones, till there are no blank ones
 -- left.
 use mathlib.Core.Path.{_≡_, refl, sym, ap, _∙_}
-use mathlib.Core.List.{List, [], _∷_, _++_, map, append-nil}
-use mathlib.Core.Bool.{Bool, true, false, cond}
+use mathlib.Core.List.{List, [], _∷_, _++_, append-nil}
+use mathlib.Core.Bool.{true, false}
 use Prim.Native.Nat.{ℕ, zero, suc, _+_, _-_, _*_, _≤_, _<_}
 use native.Mathlib.Nat.{not-suc-le-zero, le-of-suc-le-suc}
 use native.Mathlib.Omega.{arith}
-use lib.Dec.{leb, eqb}
 use lib.ListN.{length, getD, take, set, replicate, length-map, length-append, length-replicate, List·getD-map}
 use lib.Seq.{length-take-le, take-all}
 use borrow.Author.Tests.{leb-true, eqb-true}
@@ -18,9 +17,9 @@ use Rattle.record.specs.Fits.{Bytes, Good}
 use Rattle.record.proofs.Both.{left, right}
 use Rattle.record.proofs.Laws.{power-good, blank-good}
 use Rattle.area.specs.Sizes.{mostDevices, itemSize, areaSize}
-use Rattle.area.specs.Parts.{part, parts, all}
+use Rattle.area.specs.Parts.{part, all}
 use Rattle.area.specs.Link.{Frames}
-use Rattle.area.specs.Loop.{Loop, areaOf, size, shape, unsound, Sound-loop}
+use Rattle.area.specs.Loop.{Loop, areaOf, size, shape, unsound}
 use Rattle.area.specs.Lookup.{setDevice, blankOf}
 use Rattle.area.proofs.Parts.{length-parts, getD-parts}
 use Rattle.area.proofs.Each.{each-part, each-same}

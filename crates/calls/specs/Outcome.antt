@@ -1,7 +1,7 @@
 -- What a call does with a loop and, once for all calls, what it does with an area.
 use Prim.Native.Nat.{ℕ}
 use mathlib.Core.Path.{_≡_}
-use mathlib.Core.List.{List, _∷_}
+use mathlib.Core.List.{List}
 use mathlib.Core.Bool.{cond}
 use lib.Dec.{eqb}
 use Rattle.area.specs.Loop.{Loop, loopOf, areaOf, judgeOf}

@@ -1,15 +1,15 @@
 -- A call on a loop is the call of the line of its devices: put, hop, take and the local calls do the same to the same
 -- links and devices, and refuse together; what each answers is what happened.
-use Prim.Native.Nat.{ℕ, zero, suc, _+_, _≤_, _<_}
-use mathlib.Core.Path.{_≡_, refl, sym, ap, _∙_}
-use mathlib.Core.Bool.{Bool, true, false, not, cond, _&&_}
+use Prim.Native.Nat.{ℕ, zero, suc, _≤_, _<_}
+use mathlib.Core.Path.{_≡_, refl, ap}
+use mathlib.Core.Bool.{Bool, true, false, cond}
 use mathlib.Core.Option.{Option, none, some, Option·map}
-use mathlib.Core.List.{List, [], _∷_, _++_, tail}
+use mathlib.Core.List.{List, [], _∷_, tail}
 use native.Mathlib.Omega.{arith}
 use native.Mathlib.Nat.{not-suc-le-zero, le-of-suc-le-suc}
 use lib.ListN.{length, getD, getElem?}
-use lib.Dec.{eqb, ltb, leb}
-use borrow.Author.Tests.{eqb-true, eqb-false, ltb-true, ltb-false, lt-ltb, le-ltb, eq-eqb, ne-eqb}
+use lib.Dec.{eqb, ltb}
+use borrow.Author.Tests.{eqb-false, ltb-true, ltb-false, lt-ltb}
 use Rattle.frame.specs.Messages.{frames}
 use Rattle.device.specs.Take.{takes}
 use Rattle.device.specs.declared.Device.{Device}
@@ -17,21 +17,18 @@ use Rattle.device.specs.declared.Handed.{Handed}
 use Rattle.device.specs.declared.Handed.the-variants as handed
 use Rattle.local.specs.declared.Called.{Called}
 use Rattle.record.specs.Record.{deviceOf}
-use Rattle.area.specs.Sizes.{depth}
-use Rattle.area.specs.Loop.{Loop, size, device, link}
-use Rattle.area.specs.Lookup.{oldestOf, setDevice, setLink, add, remove}
-use Rattle.area.specs.declared.Oldest.{Oldest}
+use Rattle.area.specs.Loop.{Loop, device, link}
+use Rattle.area.specs.Lookup.{oldestOf, setDevice, setLink, add}
 use Rattle.calls.specs.Outcome.{Outcome, refuse, done}
-use Rattle.calls.specs.Calls.{noHop, noTake, hopAnswer, hasRoom, sentBy, passed, putIn, takeFrom, takeIn, hopFrom, hopIn}
+use Rattle.calls.specs.Calls.{hopAnswer, sentBy, passed, putIn, takeFrom, takeIn, hopFrom, hopIn}
 use Rattle.calls.specs.Calls.{calledIn, localIn}
 use Rattle.calls.specs.declared.HopAnswer.{HopAnswer}
 use Rattle.calls.specs.declared.TakeAnswer.{TakeAnswer}
 use Rattle.order.specs.Line as line
 use Rattle.order.specs.Flat as flat
-use Rattle.order.specs.Flat.{Flat, linksOf, statesOf, putFlat, hopFrom as hopFromFlat, hopFlat}
-use Rattle.order.specs.Flat.{takeFrom as takeFromFlat, takeFlat, callFrom, callFlat}
+use Rattle.order.specs.Flat.{Flat, putFlat, hopFrom as hopFromFlat, hopFlat}
+use Rattle.order.specs.Flat.{takeFrom as takeFromFlat, takeFlat, callFlat}
 use Rattle.order.specs.History.{listed}
-use Rattle.order.proofs.Flat.{same-flat}
 use Rattle.demands.specs.Histories.{Got, got, if, Local, calledBy, handedOver, acceptedBy, model}
 
 -- a flat line as a loop, and the loop of a line

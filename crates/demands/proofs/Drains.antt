@@ -1,30 +1,28 @@
 -- The drain on a loop is the drain of its line: the same device hops at each turn, and both stop for the same reason.
 use Prim.Native.Nat.{ℕ, zero, suc, _+_}
-use mathlib.Core.Path.{_≡_, refl, sym, ap, _∙_}
+use mathlib.Core.Path.{_≡_, refl, ap, _∙_}
 use mathlib.Core.Bool.{Bool, true, false, cond, _&&_}
 use mathlib.Core.Option.{Option, none, some, Option·map}
 use mathlib.Core.List.{List, [], _∷_}
 use native.Mathlib.Omega.{arith}
-use lib.ListN.{length, getD}
-use lib.Dec.{eqb, ltb}
+use lib.Dec.{eqb}
 use Rattle.area.specs.Loop.{Loop, size, link}
 use Rattle.area.specs.Lookup.{oldestOf}
-use Rattle.area.specs.declared.Oldest.{Oldest}
 use Rattle.area.specs.declared.Place.{Place}
-use Rattle.calls.specs.Outcome.{Outcome, refuse, done}
+use Rattle.calls.specs.Outcome.{Outcome, done}
 use Rattle.calls.specs.Calls.{hopIn}
-use Rattle.calls.specs.Drain.{noHopLeft, budgetSpent, byteHanded, canFrom, canHop, highest, stopped, handedTo, turned}
+use Rattle.calls.specs.Drain.{noHopLeft, budgetSpent, canFrom, canHop, highest, stopped, handedTo, turned}
 use Rattle.calls.specs.Drain.{onPlace, drainFrom}
 use Rattle.calls.specs.declared.HopAnswer.{HopAnswer}
 use Rattle.calls.specs.declared.DrainAnswer.{DrainAnswer}
 use Rattle.order.specs.Line as line
 use Rattle.order.specs.Flat as flat
-use Rattle.order.specs.Flat.{Flat, hopFlat}
+use Rattle.order.specs.Flat.{Flat}
 use Rattle.order.specs.History.{hopsMade, listed}
 use Rattle.order.proofs.Drain.{greatest-passes}
 use Rattle.order.proofs.Flat.{same-flat}
 use Rattle.demands.specs.Histories.{Got, got, if, model}
-use Rattle.demands.proofs.Bridge.{loopFlat, toLoop, Alike, both-refuse, both-do, handedIn, hop-alike}
+use Rattle.demands.proofs.Bridge.{loopFlat, toLoop, Alike, both-do, handedIn, hop-alike}
 
 -- ---- who hops
 

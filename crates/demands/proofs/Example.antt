@@ -1,5 +1,5 @@
 -- The worked example: both histories are computed on the bytes.
-use mathlib.Core.Path.{_≡_, refl}
+use mathlib.Core.Path.{refl}
 use Rattle.frame.specs.Messages.{messages, kindAt, lookup, within, firstIn, firstOf}
 use Rattle.device.specs.Choose.{choose}
 use Rattle.device.specs.PowerOn.{powerOn, bytesFrom}

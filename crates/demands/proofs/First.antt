@@ -1,29 +1,29 @@
 -- Demand 1, call by call: the tests of a call are the conditions of the table that concern it.
-use Prim.Native.Nat.{ℕ, zero, suc, _+_, _*_, _≤_}
-use mathlib.Core.Path.{_≡_, refl, sym, ap, _∙_}
+use Prim.Native.Nat.{ℕ, _+_, _*_}
+use mathlib.Core.Path.{_≡_, refl, ap, _∙_}
 use mathlib.Core.Bool.{Bool, true, false, not, cond, _&&_, _||_}
-use mathlib.Core.List.{List, [], _∷_}
+use mathlib.Core.List.{List}
 use native.Mathlib.Omega.{arith}
 use lib.ListN.{length}
 use lib.Dec.{eqb, ltb, leb}
-use borrow.Author.Tests.{eqb-true, eqb-false, ltb-true, ltb-false, leb-true, le-leb, lt-leb, eq-eqb, ne-eqb}
+use borrow.Author.Tests.{eqb-true, eqb-false, leb-true, le-leb, eq-eqb}
 use Rattle.frame.specs.Messages.{frames, kindAt, codesOf, firstOf}
 use Rattle.frame.specs.Coding.{decoding, decodeOf, encoding, encodeOf}
 use Rattle.local.specs.Local.{loads, setsStatus, wishes}
 use Rattle.record.specs.Sound.{allowed}
 use Rattle.area.specs.Sizes.{areaSize, mostDevices, itemSize}
 use Rattle.area.specs.Parts.{parts, all}
-use Rattle.area.specs.Loop.{countIn, loopOf, areaOf, shaped, sound, device, link}
+use Rattle.area.specs.Loop.{countIn, loopOf, areaOf, shaped, sound, device}
 use Rattle.calls.specs.Outcome.{After, after}
 use Rattle.calls.specs.Calls.{noTake, noHop, refusal, putIn, takeIn, hopIn, localIn}
 use Rattle.calls.specs.Drain.{noDrain, drainIn}
 use Rattle.calls.specs.SetUp.{devicesFor, itemsFit, poweredOn, setUpOf}
 use Rattle.demands.specs.Calls.{Byte, numbers, Action, put, hop, take, load, status, wish, drain, Call, does}
 use Rattle.demands.specs.Calls.{setUp, decode, encode, Answer, plain, hopped, taken, drained, decoded, encoded}
-use Rattle.demands.specs.Calls.{pil, refusalIn, bare, bareAction, acts}
+use Rattle.demands.specs.Calls.{pil, refusalIn, bare, acts}
 use Rattle.demands.specs.Conditions.{devicesAt, lowest}
-use Rattle.demands.specs.Demands.{Refuses, Demand1}
-use Rattle.demands.proofs.Lengths.{Found, found-at, at-is, shape-is, for-is}
+use Rattle.demands.specs.Demands.{Demand1}
+use Rattle.demands.proofs.Lengths.{found-at, at-is, shape-is, for-is}
 use Rattle.demands.proofs.Refusals.{Met, call-met, turned-lt}
 use Rattle.demands.proofs.Tests.{size-is, put-told, take-told, hop-told, local-told, load-refusal}
 use Rattle.demands.proofs.Tests.{status-refusal, wish-refusal, drain-told}

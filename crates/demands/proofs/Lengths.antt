@@ -1,18 +1,16 @@
 -- The number of devices of an area's length: found by trying each, by a division, or in byte 0. All say the same,
 -- since no two numbers have areas of one length.
-use Prim.Native.Nat.{ℕ, zero, suc, _+_, _-_, _*_, _/_, _≤_, _<_}
-use mathlib.Core.Path.{_≡_, refl, sym, ap, _∙_}
+use Prim.Native.Nat.{ℕ, zero, suc, _-_, _≤_}
+use mathlib.Core.Path.{_≡_, refl, ap, _∙_}
 use mathlib.Core.Bool.{Bool, true, false, not, cond, _&&_, _||_}
 use mathlib.Core.List.{List}
 use native.Mathlib.Omega.{arith}
 use lib.ListN.{length}
 use lib.Dec.{eqb, leb}
-use borrow.Author.Tests.{eqb-true, eqb-false, leb-true, leb-false, eq-eqb, ne-eqb, le-leb, lt-leb}
-use Rattle.record.specs.Sound.{allowed}
-use Rattle.area.specs.Sizes.{areaSize, mostDevices, itemSize}
-use Rattle.area.specs.Parts.{parts, all}
+use borrow.Author.Tests.{eqb-true, eqb-false, leb-true, leb-false, ne-eqb}
+use Rattle.area.specs.Sizes.{areaSize, mostDevices}
 use Rattle.area.specs.Loop.{countIn, shaped}
-use Rattle.calls.specs.SetUp.{devicesFor, itemsFit}
+use Rattle.calls.specs.SetUp.{devicesFor}
 use Rattle.demands.specs.Conditions.{devicesUpTo, devicesAt}
 
 -- what is found is right

@@ -1,15 +1,14 @@
 -- Demand 1: each call's tests are the table's conditions in the table's order, so the refusal it answers is the first
 -- that holds.
-use Prim.Native.Nat.{ℕ, zero, suc, _+_, _*_, _≤_, _<_}
-use mathlib.Core.Path.{_≡_, refl, sym, ap, _∙_}
-use mathlib.Core.Bool.{Bool, true, false, not, cond, _&&_, _||_}
+use Prim.Native.Nat.{ℕ, suc}
+use mathlib.Core.Path.{_≡_, refl}
+use mathlib.Core.Bool.{Bool, true, false, not, cond}
 use mathlib.Core.List.{List, [], _∷_}
 use native.Mathlib.Omega.{arith}
 use lib.ListN.{length}
 use lib.Dec.{eqb, ltb, leb}
-use borrow.Author.Tests.{eqb-true, eqb-false, ltb-true, ltb-false, leb-true, leb-false, eq-eqb, ne-eqb, le-leb, lt-leb}
-use Rattle.area.specs.Sizes.{depth}
-use Rattle.area.specs.Loop.{Loop, countIn, size, loopOf, areaOf, shaped, sound, judgeOf, device, link}
+use borrow.Author.Tests.{ltb-true, ltb-false, ne-eqb, le-leb, lt-leb}
+use Rattle.area.specs.Loop.{Loop, loopOf, shaped, sound, judgeOf}
 use Rattle.area.specs.Lookup.{oldestOf}
 use Rattle.area.specs.declared.Oldest.{Oldest}
 use Rattle.calls.specs.Outcome.{Outcome, refuse, done, After, after, afterOf, callOf}

@@ -1,18 +1,16 @@
 -- Histories on the areas of sound loops are histories of the line: in the area left, and in all that is read off the
 -- answers.
 use Prim.Native.Nat.{ℕ, zero, suc, _+_, _<_}
-use mathlib.Core.Path.{_≡_, refl, sym, ap, _∙_}
-use mathlib.Core.Bool.{Bool, true, false, cond}
-use mathlib.Core.List.{List, [], _∷_, _++_, map}
+use mathlib.Core.Path.{_≡_, refl, ap, _∙_}
+use mathlib.Core.Bool.{Bool, true, false}
+use mathlib.Core.List.{List, [], _∷_, _++_}
 use native.Mathlib.Omega.{arith}
-use lib.Dec.{eqb, ltb}
-use lib.ListN.{getD}
+use lib.Dec.{ltb}
 use borrow.Author.Tests.{lt-ltb, ltb-true}
 use Rattle.frame.specs.Messages.{frames}
 use Rattle.local.specs.Local.{loads, setsStatus, wishes}
-use Rattle.device.specs.declared.Device.{Device}
 use Rattle.record.specs.Fits.{Bytes}
-use Rattle.area.specs.Loop.{Loop, loopOf, areaOf, Sound-loop}
+use Rattle.area.specs.Loop.{Loop, areaOf, Sound-loop}
 use Rattle.area.proofs.Laws.{loop-back}
 use Rattle.calls.specs.Outcome.{Outcome, refuse, done, loopAfter}
 use Rattle.calls.specs.Calls.{noHop, noTake, refusal, putIn, takeIn, hopIn, localIn}
@@ -28,8 +26,8 @@ use Rattle.order.proofs.Flat.{same-flat}
 use Rattle.order.proofs.Through.{through, read-each, read-total}
 use Rattle.demands.specs.Calls.{Byte, numbers, Action, put, hop, take, load, status, wish, drain, Answer, plain}
 use Rattle.demands.specs.Calls.{hopped, taken, drained, acts}
-use Rattle.demands.specs.Histories.{Got, if, history, putBy, takenBy, handedBy, hopsBy, refusedBy, each, total}
-use Rattle.demands.specs.Histories.{areaLeft, framesPut, framesTaken, bytesHanded, hopsMade, Local, toLoad}
+use Rattle.demands.specs.Histories.{if, history, putBy, takenBy, handedBy, hopsBy, each, total}
+use Rattle.demands.specs.Histories.{areaLeft, framesPut, framesTaken, bytesHanded, hopsMade, toLoad}
 use Rattle.demands.specs.Histories.{toStatus, toWish, model, calls, allCalls, lineOf, turnsOf, action}
 use Rattle.demands.proofs.Bridge.{toLoop}
 use Rattle.demands.proofs.Settled.{settle, onLoop, acts-on, fair, follows}

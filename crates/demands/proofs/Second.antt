@@ -1,11 +1,10 @@
 -- Demand 2: a hop leaves the area of the loop that it leaves, and that area differs from the old one in one record and
 -- two links.
 use Prim.Native.Nat.{ℕ, suc, _+_, _<_}
-use mathlib.Core.Path.{_≡_, refl, sym, ap, _∙_}
+use mathlib.Core.Path.{_≡_, sym, ap, _∙_}
 use mathlib.Core.List.{List, [], _∷_, _++_, tail}
 use native.Mathlib.Omega.{arith}
-use lib.Dec.{ltb}
-use lib.ListN.{length, take, drop, getD, set, length-set}
+use lib.ListN.{length, length-set}
 use lib.Seq.{drop-drop, getD-set-other}
 use borrow.Author.Tests.{lt-ltb}
 use Rattle.frame.proofs.Rows.{in-order}
@@ -18,13 +17,13 @@ use Rattle.record.proofs.Laws.{record-wide}
 use Rattle.area.specs.Sizes.{depth, linkSize, recordAt, linkAt}
 use Rattle.area.specs.Link.{linkOf}
 use Rattle.area.specs.Loop.{Loop, countIn, size, loopOf, areaOf, judgeOf, device, link}
-use Rattle.area.specs.Lookup.{oldestOf, setDevice, setLink, add, remove}
+use Rattle.area.specs.Lookup.{oldestOf, setDevice, setLink}
 use Rattle.area.proofs.Parts.{splice}
 use Rattle.area.proofs.Links.{link-wide}
 use Rattle.area.proofs.Areas.{device-put, link-put}
 use Rattle.area.proofs.Laws.{area-back, loop-sound}
 use Rattle.calls.specs.Outcome.{done, After, after, callOf}
-use Rattle.calls.specs.Calls.{noHop, hopAnswer, sentBy, passed, hopFrom, hopIn, hopOf}
+use Rattle.calls.specs.Calls.{hopAnswer, sentBy, passed, hopFrom, hopIn, hopOf}
 use Rattle.calls.specs.declared.HopAnswer.{HopAnswer}
 use Rattle.demands.specs.Calls.{hopped, acts}
 use Rattle.demands.specs.Demands.{with, recordTaken, linkLess, hopLeaves, Obeys, Demand2}

@@ -1,23 +1,22 @@
 -- Each action on a sound loop's area is what it does with the loop, and on the loop it is the call of the line: in
 -- the loop that it leaves, and in what is read off its answer.
-use Prim.Native.Nat.{ℕ, zero, suc, _+_, _<_}
+use Prim.Native.Nat.{ℕ, zero, suc, _+_}
 use mathlib.Core.Path.{_≡_, refl, sym, ap, _∙_}
-use mathlib.Core.Bool.{Bool, true, false, not, cond, _&&_, and-false}
+use mathlib.Core.Bool.{Bool, true, false, cond, _&&_, and-false}
 use mathlib.Core.Option.{Option, none, some, Option·map}
-use mathlib.Core.List.{List, [], _∷_, _++_, map, append-nil}
+use mathlib.Core.List.{List, [], _∷_, map, append-nil}
 use native.Mathlib.Omega.{arith}
 use lib.Dec.{eqb, ltb}
 use borrow.Author.Tests.{eq-eqb, ne-eqb, ltb-true, eqb-true, eqb-false}
 use Rattle.frame.specs.Messages.{frames}
 use Rattle.local.specs.Local.{loads, setsStatus, wishes}
-use Rattle.area.specs.Loop.{Loop, loopOf, areaOf, judgeOf, Sound-loop}
+use Rattle.area.specs.Loop.{Loop, areaOf, Sound-loop}
 use Rattle.area.proofs.Laws.{loop-back, area-sound}
 use Rattle.calls.specs.Outcome.{Outcome, refuse, done, After, after, afterOf, callOf}
 use Rattle.calls.specs.Calls.{refusal, noHop, noTake, putIn, takeIn, hopIn, localIn}
 use Rattle.calls.specs.Drain.{noDrain, drainIn}
 use Rattle.calls.specs.declared.HopAnswer.{HopAnswer}
 use Rattle.calls.specs.declared.TakeAnswer.{TakeAnswer}
-use Rattle.calls.specs.declared.DrainAnswer.{DrainAnswer}
 use Rattle.order.specs.Line as line
 use Rattle.order.specs.Flat as flat
 use Rattle.order.specs.History as told
@@ -27,10 +26,10 @@ use Rattle.order.proofs.Flat.{same-flat}
 use Rattle.order.proofs.Drain.{drain-is-hops, drain-stops}
 use Rattle.order.proofs.Through.{each-append}
 use Rattle.demands.specs.Calls.{numbers, Action, put, hop, take, load, status, wish, drain, Answer, plain, hopped}
-use Rattle.demands.specs.Calls.{taken, drained, acts, refusalIn}
+use Rattle.demands.specs.Calls.{taken, drained, acts}
 use Rattle.demands.specs.Histories.{Got, got, if, putBy, takenBy, handedBy, hopsBy, refusedBy, Local, toLoad}
-use Rattle.demands.specs.Histories.{toStatus, toWish, calledBy, model, calls}
-use Rattle.demands.proofs.Bridge.{loopFlat, toLoop, Alike, both-refuse, both-do, handedIn, put-alike, take-alike}
+use Rattle.demands.specs.Histories.{toStatus, toWish, model, calls}
+use Rattle.demands.proofs.Bridge.{toLoop, Alike, both-refuse, both-do, handedIn, put-alike, take-alike}
 use Rattle.demands.proofs.Bridge.{hop-alike, local-alike}
 use Rattle.demands.proofs.Drains.{drainAnswer, drained-alike}
 

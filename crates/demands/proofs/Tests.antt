@@ -1,8 +1,8 @@
 -- The tests of each call on a loop, as the conditions of the table that concern it.
-use Prim.Native.Nat.{ℕ, zero, suc, _≤_, _<_}
-use mathlib.Core.Path.{_≡_, refl, sym, ap, _∙_}
+use Prim.Native.Nat.{ℕ, zero, suc}
+use mathlib.Core.Path.{_≡_, refl, ap, _∙_}
 use mathlib.Core.Bool.{Bool, true, false, not, cond}
-use mathlib.Core.List.{List, [], _∷_, map}
+use mathlib.Core.List.{List}
 use native.Mathlib.Omega.{arith}
 use lib.ListN.{length, drop, length-map}
 use lib.Dec.{eqb, ltb, leb}
@@ -24,9 +24,9 @@ use Rattle.area.specs.Lookup.{oldestOf, setDevice}
 use Rattle.area.specs.declared.Oldest.{Oldest}
 use Rattle.area.specs.declared.Place.{Place}
 use Rattle.calls.specs.Outcome.{Outcome, refuse, done}
-use Rattle.calls.specs.Calls.{refusal, hopAnswer, sentBy, passed, putIn, takeFrom, takeIn, hopFrom, hopIn, calledIn}
+use Rattle.calls.specs.Calls.{refusal, hopAnswer, sentBy, putIn, takeFrom, takeIn, hopFrom, hopIn, calledIn}
 use Rattle.calls.specs.Calls.{localIn, hasRoom}
-use Rattle.calls.specs.Drain.{onPlace, stopped, handedTo, turned, highest, drainFrom}
+use Rattle.calls.specs.Drain.{onPlace, handedTo, turned, highest, drainFrom}
 use Rattle.calls.specs.declared.HopAnswer.{HopAnswer}
 use Rattle.calls.specs.declared.TakeAnswer.{TakeAnswer}
 use Rattle.calls.specs.declared.DrainAnswer.{DrainAnswer}

@@ -1,12 +1,10 @@
 -- Demand 3: the area that a set-up leaves holds an idle line, a history on it is one of the line, and the line's
 -- order does not matter; the right-round history of the line can be made by calls on the area, and all is read off
 -- its answers too.
-use Prim.Native.Nat.{ℕ, zero, suc, _+_, _*_, _≤_, _<_}
+use Prim.Native.Nat.{ℕ, suc, _*_, _<_}
 use mathlib.Core.Path.{_≡_, refl, sym, ap, _∙_}
-use mathlib.Core.Bool.{Bool, true, false, not, cond, _||_}
-use mathlib.Core.List.{List, [], _∷_, _++_, map}
-use native.Mathlib.Omega.{arith}
-use lib.Dec.{eqb, ltb}
+use mathlib.Core.Bool.{true, cond}
+use mathlib.Core.List.{List, [], _∷_, map}
 use lib.ListN.{length, getD, replicate, length-map}
 use borrow.Author.Tests.{lt-ltb}
 use Rattle.frame.specs.Messages.{frames}
@@ -26,15 +24,15 @@ use Rattle.order.specs.Through.{Every, FairCall, callsOf}
 use Rattle.order.specs.Order.{SameAs}
 use Rattle.order.proofs.Order.{any-order, agree}
 use Rattle.order.proofs.Written.{run-puts, round-fair, calls-fair, writes-all}
-use Rattle.demands.specs.Calls.{Byte, numbers, Action, put, hop, take, load, status, wish, drain, setUp, Answer}
-use Rattle.demands.specs.Calls.{pil, refusalIn}
+use Rattle.demands.specs.Calls.{Byte, numbers, Action, put, hop, take, drain, setUp, Answer}
+use Rattle.demands.specs.Calls.{pil}
 use Rattle.demands.specs.Conditions.{devicesAt, lowest}
 use Rattle.demands.specs.Histories.{history, total, refusedBy, areaLeft, framesPut, framesTaken, bytesHanded}
-use Rattle.demands.specs.Histories.{hopsMade, callsRefused, toLoad, toStatus, toWish, model, calls, allCalls}
-use Rattle.demands.specs.Histories.{lineOf, turnsOf, action, inTurn}
+use Rattle.demands.specs.Histories.{hopsMade, callsRefused, toLoad, toStatus, toWish, model, allCalls}
+use Rattle.demands.specs.Histories.{turnsOf, action, inTurn}
 use Rattle.demands.specs.Demands.{AllEmpty, InAnyOrder, Demand3, Agreement}
 use Rattle.demands.proofs.Tests.{size-is}
-use Rattle.demands.proofs.First.{SetsUp, sets-up}
+use Rattle.demands.proofs.First.{sets-up}
 use Rattle.demands.proofs.Bridge.{toLoop}
 use Rattle.demands.proofs.Settled.{fair, follows}
 use Rattle.demands.proofs.Rendered.{numbers-bytes, R, W, same-calls, line-is, area-is, good-is, count, puts-are}

@@ -4,7 +4,6 @@ use Prim.Native.Nat.{ℕ, suc, _+_, _*_, _<_}
 use mathlib.Core.Path.{_≡_}
 use mathlib.Core.List.{List, [], _∷_, _++_, tail}
 use lib.ListN.{length, take, drop}
-use Rattle.frame.specs.Messages.{kindAt}
 use Rattle.frame.specs.Laws.{TableInOrder, EncodeDecode, DecodeEncode, TableIsDecoder}
 use Rattle.device.specs.Take.{takes}
 use Rattle.device.specs.declared.Device.{Device}
@@ -15,7 +14,7 @@ use Rattle.area.specs.Link.{linkOf}
 use Rattle.area.specs.Loop.{countIn, loopOf, judgeOf, device, link}
 use Rattle.calls.specs.Outcome.{After}
 use Rattle.calls.specs.Calls.{hopAnswer}
-use Rattle.demands.specs.Calls.{Byte, Action, hop, Call, does, setUp, Answer, hopped, acts, pil, refusalIn, bare}
+use Rattle.demands.specs.Calls.{Byte, Action, hop, Call, setUp, Answer, hopped, acts, pil, refusalIn, bare}
 use Rattle.demands.specs.Conditions.{lowest}
 use Rattle.demands.specs.Histories.{areaLeft, framesPut, framesTaken, bytesHanded, hopsMade, callsRefused}
 use Rattle.demands.specs.Histories.{turnsOf, inTurn}

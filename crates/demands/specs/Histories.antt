@@ -1,11 +1,10 @@
 -- Histories of calls on an area, what a caller in C reads off their answers, and the history that sends each frame
 -- right round.
 use Prim.Native.Nat.{ℕ, _+_}
-use mathlib.Core.Path.{_≡_}
 use mathlib.Core.Bool.{Bool, cond, _&&_}
 use mathlib.Core.Option.{Option, none, some}
 use mathlib.Core.List.{List, [], _∷_, _++_, map}
-use lib.Dec.{T, eqb, ltb, lit<}
+use lib.Dec.{eqb, ltb, lit<}
 use Rattle.frame.specs.Messages.{frames}
 use Rattle.device.specs.Take.{takes}
 use Rattle.local.specs.Local.{loads, setsStatus, wishes}
@@ -15,7 +14,6 @@ use Rattle.device.specs.declared.Handed.the-variants as handed
 use Rattle.local.specs.declared.Called.{Called}
 use Rattle.area.specs.Sizes.{depth}
 use Rattle.area.specs.Loop.{countIn, loopOf}
-use Rattle.calls.specs.Outcome.{After}
 use Rattle.order.specs.Line as line
 use Rattle.order.specs.Flat.{lineUp}
 use Rattle.order.specs.History.{Turn, turns}

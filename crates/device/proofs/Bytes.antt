@@ -1,10 +1,9 @@
 -- Laws of the bytes of a list from a place on.
-use Prim.Native.Nat.{ℕ, zero, suc, _+_, _-_, _≤_, _<_}
+use Prim.Native.Nat.{ℕ, zero, suc, _+_, _-_, _≤_}
 use mathlib.Core.Path.{_≡_, refl, sym, ap, _∙_}
 use mathlib.Core.List.{List, [], _∷_, _++_}
 use native.Mathlib.Omega.{arith}
-use lib.ListN.{length, take, drop, getD, replicate, List·getD-eq-default, drop-of-length-le, length-append, length-take}
-use lib.ListN.{length-drop, length-replicate, take-append-drop}
+use lib.ListN.{length, take, drop, getD, replicate, List·getD-eq-default, drop-of-length-le}
 use lib.Seq.{drop-cons, take-all}
 use Rattle.device.specs.PowerOn.{bytesFrom}
 

@@ -1,21 +1,19 @@
 // Hop: a device takes its oldest frame and sends one into the next link.
 use area::Oldest;
-use area::Place;
 use area::Room;
 use area::change::add_at;
 use area::change::remove_at;
 use area::change::set_device;
 use area::lookup::device_at;
 use area::lookup::oldest_at;
-use area::lookup::place_of;
 use area::lookup::room_at;
 use calls::EMPTY;
 use calls::FULL;
 use calls::HopAnswer;
-use calls::NO_DEVICE;
 use device::Handed;
 use device::Sent;
-use judge::judge;
+use find::Found;
+use find::find;
 ghost use mathlib.Core.Path.{_≡_};
 ghost use Rattle.area.specs.Loop.{loopOf, Holds, HasDevice};
 ghost use Rattle.calls.specs.Outcome.{Is, afterOf};
@@ -90,12 +88,8 @@ pub fn hop_at(area: &mut [u8], i: usize) -> HopAnswer
 pub fn hop(area: &mut [u8], device: u64) -> HopAnswer
     ensures { λ r. ⌜ Is (hopOf (now (area .entry)) device) r (now (area .exit)) ⌝ }
 {
-    let wrong = judge(area);
-    if wrong != 0 {
-        return no_hop(wrong);
+    match find(area, device) {
+        Found::Refused(wrong) => no_hop(wrong),
+        Found::At(i) => hop_at(area, i),
     }
-    let Place::At(i) = place_of(area, device) else {
-        return no_hop(NO_DEVICE);
-    };
-    hop_at(area, i)
 }

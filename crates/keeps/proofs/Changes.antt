@@ -1,22 +1,20 @@
 -- Each change of a device keeps it sound where what it writes is in order: only the group that reads it is shown anew.
-use Prim.Native.Nat.{ℕ, zero, suc, _≤_, _<_}
-use mathlib.Core.Path.{_≡_, refl, sym, _∙_}
-use mathlib.Core.Bool.{Bool, true, false}
-use mathlib.Core.List.{List, [], _∷_}
+use Prim.Native.Nat.{ℕ, _≤_, _<_}
+use mathlib.Core.Path.{_≡_, refl}
+use mathlib.Core.Bool.{true}
+use mathlib.Core.List.{List}
 use native.Mathlib.Omega.{arith}
-use lib.ListN.{length, drop, getD}
-use lib.Dec.{eqb, ltb}
+use lib.ListN.{length}
+use lib.Dec.{ltb}
 use borrow.Author.Tests.{eq-eqb, lt-ltb}
 use Rattle.device.specs.Device.{has, talks, mostData}
-use Rattle.device.specs.PowerOn.{bytesFrom}
 use Rattle.device.specs.Change.{listening, talking, placed, serving, noting, loading, statusing}
 use Rattle.device.specs.declared.Device.{Device}
 use Rattle.device.proofs.Bytes.{bytes-wide}
-use Rattle.record.specs.Record.{zeros}
 use Rattle.record.specs.Fits.{Bytes}
 use Rattle.record.proofs.Laws.{bytes-small}
 use Rattle.keeps.proofs.Zeros.{padded-zero}
-use Rattle.keeps.proofs.Groups.{Kept, Listens, Serves, Placed, Talks, Loads, Sized, eq-in, lt-in, only-in}
+use Rattle.keeps.proofs.Groups.{Kept, Talks, eq-in, lt-in, only-in}
 use Rattle.record.proofs.Both.{both-true}
 
 -- nothing is being sent

@@ -1,13 +1,12 @@
 -- Soundness, sorted by what a change touches: six groups of facts, each of which reads only some of the fields. A
 -- change leaves
 -- the groups alone that do not read what it changes.
-use Prim.Native.Nat.{ℕ, suc, _≤_, _<_}
+use Prim.Native.Nat.{ℕ, _≤_, _<_}
 use mathlib.Core.Path.{_≡_, refl}
-use mathlib.Core.Bool.{Bool, true, false, not, _&&_, _||_}
+use mathlib.Core.Bool.{Bool, true, false, not, _&&_}
 use mathlib.Core.List.{List, [], _∷_}
-use native.Mathlib.Omega.{arith}
 use lib.Dec.{eqb, ltb, leb}
-use lib.ListN.{length, drop, getD}
+use lib.ListN.{length, drop}
 use borrow.Author.Tests.{eqb-true, leb-true, ltb-true, ltb-false, not-true, eq-eqb, le-leb, lt-ltb, le-ltb}
 use Rattle.device.specs.Device.{has, talks}
 use Rattle.device.specs.declared.Device.{Device}
@@ -15,7 +14,7 @@ use Rattle.record.specs.Record.{zeros}
 use Rattle.record.specs.Sound.{only, inRange, zeroPast, serviceWithStatus, unaddressWithBoth, unconfiguredFixed}
 use Rattle.record.specs.Sound.{configuredAble, listenerAble, serviceAble, sendingAble, addressedAble, dataAble}
 use Rattle.record.specs.Sound.{sentWithin, repliedRight, quietOutside, lastBelow, soundDevice}
-use Rattle.record.specs.Fits.{Bytes, Fits, Good}
+use Rattle.record.specs.Fits.{Bytes, Good}
 use Rattle.record.proofs.Both.{left, right, both-true}
 
 -- what set-up gave, which never changes

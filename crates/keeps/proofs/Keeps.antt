@@ -1,21 +1,21 @@
 -- The theorems of specs/Keeps.antt: rule by rule in the papers' order, and then whichever rule the frame's kind
 -- selects.
-use Prim.Native.Nat.{ℕ, _+_, _-_, _≤_, _<_}
-use mathlib.Core.Path.{_≡_, refl, sym, ap, _∙_}
-use mathlib.Core.Bool.{Bool, true, false}
+use Prim.Native.Nat.{ℕ, _-_, _≤_, _<_}
+use mathlib.Core.Path.{_≡_, refl}
+use mathlib.Core.Bool.{Bool, true}
 use mathlib.Core.List.{List, [], _∷_}
 use native.Mathlib.Omega.{arith}
 use lib.Dec.{eqb, ltb}
 use lib.ListN.{length}
 use borrow.Author.Tests.{eqb-true, eqb-false, ltb-true, ltb-false}
 use Rattle.frame.specs.declared.Kind.the-variants.{Aad}
-use Rattle.frame.specs.Messages.{numberOf, kindAt, firstOf, codesOf, messages, firstIn, codesIn}
+use Rattle.frame.specs.Messages.{kindAt, firstOf, codesOf, messages, firstIn, codesIn}
 use Rattle.frame.proofs.Rows.{within-kind}
 use Rattle.device.specs.Choose.{choose}
-use Rattle.device.specs.Device.{has, talks, sendData, status, deviceID, accessoryID, sending}
+use Rattle.device.specs.Device.{has, talks, sendData, status, sending}
 use Rattle.device.specs.Change.{listening, talking}
 use Rattle.device.specs.Commands.{lad, tad, ifc, aau}
-use Rattle.device.specs.Reply.{sends, marked, eto, ete, continues}
+use Rattle.device.specs.Reply.{sends, marked, eto, ete}
 use Rattle.device.specs.Ready.{requested, polls, sst, nrd, aad}
 use Rattle.device.specs.Data.{returned, heard, dataOrEnd}
 use Rattle.device.specs.Take.{Rule, number, rules, select, takes}
@@ -28,7 +28,7 @@ use Rattle.keeps.specs.Keeps.{TakeKeeps, TakeBelow, LoadKeeps, StatusKee
 use Rattle.keeps.proofs.Groups.{Kept, kept-of, good-of, lt-out}
 use Rattle.keeps.proofs.Changes.{listening-kept, resting-kept, placed-kept, serving-kept, noting-kept}
 use Rattle.keeps.proofs.Changes.{loading-kept, statusing-kept}
-use Rattle.keeps.proofs.Replies.{chosen, Out, marked-below, Others, others, Sends, stops-out, continues-out}
+use Rattle.keeps.proofs.Replies.{chosen, Out, marked-below, others, Sends, stops-out, continues-out}
 
 -- the frame goes on, and the device after it is sound
 passes : (d : Device) (f : ℕ) → Kept d → Out f (sends d f)

@@ -1,15 +1,14 @@
 -- A talker's replies keep it sound: what it sends is a byte with its bits, and it counts no further than the reply is
 -- long.
 use Prim.Native.Nat.{ℕ, zero, suc, _+_, _*_, _/_, _%_, _≤_, _<_}
-use mathlib.Core.Path.{_≡_, refl, sym, _∙_}
+use mathlib.Core.Path.{_≡_, refl}
 use mathlib.Core.Bool.{Bool, true, false, _||_}
 use native.Mathlib.Omega.{arith}
 use lib.Dec.{eqb, ltb}
 use lib.ListN.{getD}
-use borrow.Author.Tests.{eqb-true, eqb-false, ltb-true, ltb-false, eq-eqb, ne-eqb}
+use borrow.Author.Tests.{eqb-true, eqb-false, ltb-true, eq-eqb, ne-eqb}
 use Rattle.device.specs.Choose.{choose}
 use Rattle.device.specs.Device.{has, talks}
-use Rattle.device.specs.Change.{talking}
 use Rattle.device.specs.Reply.{eto, marked, stops, dataFrame, otherByte, otherLength, sendsData, sendsOther, continues}
 use Rattle.device.specs.declared.Device.{Device}
 use Rattle.device.specs.declared.Sent.{Sent}

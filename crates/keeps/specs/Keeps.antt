@@ -1,7 +1,7 @@
 -- A sound device stays sound, whatever it is given: statements, proved in proofs/Keeps.antt.
-use Prim.Native.Nat.{ℕ, suc, _<_, _≤_}
+use Prim.Native.Nat.{ℕ, _<_, _≤_}
 use mathlib.Core.Path.{_≡_}
-use mathlib.Core.List.{List, []}
+use mathlib.Core.List.{List}
 use Rattle.frame.specs.Messages.{frames}
 use Rattle.device.specs.Device.{addressed}
 use Rattle.device.specs.Take.{takes}

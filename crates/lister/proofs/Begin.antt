@@ -1,6 +1,6 @@
 -- The set-up of line 1: refused but for 1 to 15 devices, and otherwise the same whatever the area held before.
-use Prim.Native.Nat.{ℕ, zero, suc, _+_, _-_, _*_, _/_, _≤_, _<_}
-use mathlib.Core.Path.{_≡_, refl, sym, ap, _∙_}
+use Prim.Native.Nat.{ℕ, zero, suc, _+_, _-_, _*_, _≤_, _<_}
+use mathlib.Core.Path.{_≡_, refl, ap, _∙_}
 use mathlib.Core.List.{List, [], _∷_, _++_, map}
 use mathlib.Core.Bool.{Bool, true, false, _&&_, cond}
 use native.Mathlib.Omega.{arith}
@@ -12,10 +12,10 @@ use Rattle.record.specs.Fits.{Bytes}
 use Rattle.record.specs.Sound.{allowed}
 use Rattle.record.proofs.Both.{left, right}
 use Rattle.area.specs.Sizes.{mostDevices, itemSize, areaSize}
-use Rattle.area.specs.Parts.{all, parts, join}
+use Rattle.area.specs.Parts.{all, join}
 use Rattle.area.specs.Loop.{shape, unsound, areaOf}
 use Rattle.area.proofs.Parts.{length-join, length-parts}
-use Rattle.calls.specs.Outcome.{After, after}
+use Rattle.calls.specs.Outcome.{after}
 use Rattle.calls.specs.SetUp.{devicesFor, itemsOf, itemsFit, poweredOn, setUpOf}
 use Rattle.calls.proofs.Powered.{set-up-sound}
 use Rattle.text.specs.Words.{loopWord, begins}

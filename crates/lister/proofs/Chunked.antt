@@ -1,36 +1,35 @@
 -- The chunks are the listing: line 1 sets the loop up as the listing does, and the calls behind it do the lines
 -- behind it.
-use Prim.Native.Nat.{ℕ, zero, suc, _+_, _≤_, _<_}
-use mathlib.Core.Path.{_≡_, refl, sym, ap, _∙_}
-use mathlib.Core.List.{List, [], _∷_, _++_, map, append-nil}
-use mathlib.Core.Bool.{Bool, true, false, _&&_, cond}
+use Prim.Native.Nat.{ℕ, suc, _+_, _≤_, _<_}
+use mathlib.Core.Path.{_≡_, refl}
+use mathlib.Core.List.{List, [], _++_, append-nil}
+use mathlib.Core.Bool.{Bool, true, false, cond}
 use native.Mathlib.Omega.{arith}
-use lib.Dec.{eqb, ltb, leb}
-use lib.ListN.{length, take, drop, replicate, length-map, length-append, length-drop, length-replicate}
+use lib.Dec.{ltb, leb}
+use lib.ListN.{length, take, drop, replicate, length-append, length-drop, length-replicate}
 use lib.ListN.{drop-of-length-le}
 use lib.Seq.{length-take-le}
 use borrow.Author.Tests.{ltb-true, ltb-false, leb-true, leb-false, le-leb}
 use Rattle.bytes.specs.Bytes.{indexOf}
 use Rattle.record.specs.Sound.{allowed}
-use Rattle.area.specs.Sizes.{mostDevices, itemSize, areaSize}
+use Rattle.area.specs.Sizes.{mostDevices, areaSize}
 use Rattle.area.specs.Parts.{all}
-use Rattle.area.specs.Loop.{size, areaOf, unsound}
-use Rattle.area.proofs.Parts.{length-parts}
-use Rattle.calls.specs.Outcome.{After, after}
-use Rattle.calls.specs.SetUp.{itemsOf, itemsFit, poweredOn, setUpOf}
+use Rattle.area.specs.Loop.{areaOf, unsound}
+use Rattle.calls.specs.Outcome.{after}
+use Rattle.calls.specs.SetUp.{itemsOf, poweredOn}
 use Rattle.text.specs.Words.{newline, begins}
 use Rattle.lister.specs.Lines.{linesOf}
 use Rattle.text.specs.Out.{badLine, longLine}
 use Rattle.script.specs.Script.{devicesIn, loopRight, itemsIn}
 use Rattle.lister.specs.Listing.{longest, framesListed, setUp, setUpListed, scriptListed, listing}
 use Rattle.round.specs.Round.{textRoom}
-use Rattle.lister.specs.Chunks.{areaRoom, roomy, over, Does, does, lineAt, setUpIn, setUpDoes}
+use Rattle.lister.specs.Chunks.{areaRoom, over, Does, does, lineAt, setUpIn, setUpDoes}
 use Rattle.lister.specs.Chunks.{firstDoes}
 use Rattle.lister.specs.Chunks.{startDoes}
 use Rattle.lister.specs.Laws.{textFrom, nextFrom, ChunksList}
 use Rattle.lister.specs.declared.Next.{Next}
 use Rattle.lister.proofs.Cut.{index-within, lines-cut}
-use Rattle.round.proofs.Held.{Area, long}
+use Rattle.round.proofs.Held.{long}
 use Rattle.lister.proofs.Begin.{items-long, set-up-refused, set-up-done, powered, Line1, line1}
 use Rattle.lister.proofs.Listed.{end-text, end-next, listed}
 

@@ -1,18 +1,18 @@
 -- The chunks are the listing: each call does a line, and leaves the area, the place and the number for the lines behind
 -- it.
-use Prim.Native.Nat.{ℕ, zero, suc, _+_, _*_, _≤_, _<_}
-use mathlib.Core.Path.{_≡_, refl, sym, ap, _∙_}
+use Prim.Native.Nat.{ℕ, zero, suc, _+_, _≤_, _<_}
+use mathlib.Core.Path.{_≡_, refl, ap, _∙_}
 use mathlib.Core.List.{List, [], _∷_, _++_, append-nil}
-use mathlib.Core.Bool.{Bool, true, false, _&&_, cond}
+use mathlib.Core.Bool.{Bool, true, false}
 use native.Mathlib.Numerals.{add-one}
 use native.Mathlib.Omega.{arith}
-use lib.Dec.{eqb, ltb, leb}
-use lib.ListN.{length, getD, take, drop, length-append, length-drop, drop-of-length-le, List·getD-append}
+use lib.Dec.{ltb}
+use lib.ListN.{length, drop, length-append, length-drop, drop-of-length-le, List·getD-append}
 use lib.Seq.{take-at, drop-at, drop-drop, length-take-le}
-use borrow.Author.Tests.{ltb-true, ltb-false, lt-ltb, le-ltb, le-leb, eq-eqb}
+use borrow.Author.Tests.{ltb-true, ltb-false, lt-ltb, le-ltb, le-leb}
 use Rattle.bytes.specs.Bytes.{indexOf}
 use Rattle.area.specs.Sizes.{mostDevices, areaSize}
-use Rattle.area.specs.Loop.{countIn, judgeOf}
+use Rattle.area.specs.Loop.{countIn}
 use Rattle.text.specs.Words.{newline}
 use Rattle.text.specs.Digits.{numberAt}
 use Rattle.lister.specs.Lines.{linesOf}

@@ -1,12 +1,9 @@
 // The local calls of a device: load data, set status, wish for service.
-use area::Place;
 use area::change::set_device;
 use area::lookup::device_at;
-use area::lookup::place_of;
-use calls::NO_DEVICE;
-use judge::judge;
+use find::Found;
+use find::find;
 use local::Called;
-ghost use mathlib.Core.Path.{_≡_};
 ghost use Rattle.record.specs.Fits.{Good};
 ghost use Rattle.area.specs.Loop.{loopOf, HasDevice};
 ghost use Rattle.calls.specs.Outcome.{Is, afterOf};
@@ -29,41 +26,35 @@ fn settle(area: &mut [u8], i: usize, called: Called) -> u8
 pub fn load(area: &mut [u8], device: u64, bytes: &[u8]) -> u8
     ensures { λ r. ⌜ Is (loadOf (now (area .entry)) device (now (bytes .entry))) r (now (area .exit)) ⌝ }
 {
-    let wrong = judge(area);
-    if wrong != 0 {
-        return wrong;
+    match find(area, device) {
+        Found::Refused(wrong) => wrong,
+        Found::At(i) => {
+            let called = local::load(device_at(area, i), bytes);
+            settle(area, i, called)
+        }
     }
-    let Place::At(i) = place_of(area, device) else {
-        return NO_DEVICE;
-    };
-    let called = local::load(device_at(area, i), bytes);
-    settle(area, i, called)
 }
 
 pub fn status(area: &mut [u8], device: u64, status: u8) -> u8
     ensures { λ r. ⌜ Is (statusOf (now (area .entry)) device status) r (now (area .exit)) ⌝ }
 {
-    let wrong = judge(area);
-    if wrong != 0 {
-        return wrong;
+    match find(area, device) {
+        Found::Refused(wrong) => wrong,
+        Found::At(i) => {
+            let called = local::status(device_at(area, i), status);
+            settle(area, i, called)
+        }
     }
-    let Place::At(i) = place_of(area, device) else {
-        return NO_DEVICE;
-    };
-    let called = local::status(device_at(area, i), status);
-    settle(area, i, called)
 }
 
 pub fn wish(area: &mut [u8], device: u64, wish: u64) -> u8
     ensures { λ r. ⌜ Is (wishOf (now (area .entry)) device wish) r (now (area .exit)) ⌝ }
 {
-    let wrong = judge(area);
-    if wrong != 0 {
-        return wrong;
+    match find(area, device) {
+        Found::Refused(wrong) => wrong,
+        Found::At(i) => {
+            let called = local::wish(device_at(area, i), wish);
+            settle(area, i, called)
+        }
     }
-    let Place::At(i) = place_of(area, device) else {
-        return NO_DEVICE;
-    };
-    let called = local::wish(device_at(area, i), wish);
-    settle(area, i, called)
 }

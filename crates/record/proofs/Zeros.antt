@@ -1,6 +1,6 @@
 -- Bytes that are all zero from a place on, one byte more tested at each turn.
 use Prim.Native.Nat.{ℕ, suc, _+_, _≤_, _<_, max}
-use mathlib.Core.Path.{_≡_, refl, sym, ap, _∙_}
+use mathlib.Core.Path.{_≡_, refl}
 use mathlib.Core.Bool.{Bool, true, false, _&&_, _||_, and-true, and-assoc}
 use mathlib.Core.List.{List}
 use native.Mathlib.Numerals.{add-one}

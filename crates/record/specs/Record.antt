@@ -3,17 +3,14 @@ use Prim.Native.Nat.{ℕ, suc, _+_, _*_, _/_, _%_}
 use mathlib.Core.List.{List, [], _∷_, _++_}
 use mathlib.Core.Bool.{Bool, true, _&&_}
 use lib.Dec.{eqb}
-use lib.ListN.{getD, take, drop}
+use lib.ListN.{getD}
 use Rattle.device.specs.Device.{mostID, mostData}
 use Rattle.device.specs.PowerOn.{bytesFrom}
 use Rattle.device.specs.declared.Device.{Device}
 
--- bytes of a record, and those before the ID
+-- bytes of a record
 abbrev pub recordSize : ℕ
 recordSize = 64
-
-abbrev pub headSize : ℕ
-headSize = 24
 
 -- the little-endian number at a place
 abbrev pub word : ℕ → List ℕ → ℕ

@@ -13,7 +13,7 @@ use Rattle.calls.specs.Calls.{refusal, putIn, noHop, hopIn, hopOf, noTake, take
 use Rattle.calls.specs.Laws.{Keeps}
 use Rattle.calls.proofs.Outcomes.{call-done}
 use Rattle.calls.proofs.Kept.{put-keeps, hop-keeps, take-keeps}
-use Rattle.round.specs.Round.{hopsArea, hoppedArea, putArea, roundArea}
+use Rattle.round.specs.Round.{hopsArea, putArea, roundArea}
 
 pub record Area (n : ℕ) (a : List ℕ) : Type 0 where
   pub loop : Loop

@@ -1,5 +1,5 @@
 -- Devices that hop one after the other: what the first ones left and wrote, and what the others do, is what all do.
-use Prim.Native.Nat.{ℕ, zero, suc, _+_, _-_, _*_, _≤_, _<_}
+use Prim.Native.Nat.{ℕ, suc, _+_, _-_, _*_, _≤_, _<_}
 use mathlib.Core.Path.{_≡_, refl, sym, ap, _∙_}
 use mathlib.Core.List.{List, [], _++_, append-assoc, append-nil}
 use mathlib.Core.Bool.{Bool, true, false, cond}
@@ -14,12 +14,11 @@ use Rattle.calls.specs.Calls.{noHop, hopIn, hopOf, takeOf}
 use Rattle.calls.specs.declared.HopAnswer.{HopAnswer}
 use Rattle.calls.specs.declared.TakeAnswer.{TakeAnswer}
 use Rattle.calls.proofs.Outcomes.{call-done}
-use Rattle.text.specs.Digits.{decimal}
 use Rattle.text.specs.Out.{handLine, frameLine}
 use Rattle.round.specs.Round.{handed, hopsText, hopsArea, putArea, hoppedArea, roundText, roundArea}
 use Rattle.round.specs.Round.{textRoom}
 use Rattle.round.specs.Round.{Hopped}
-use Rattle.text.specs.Out.{handSize, frameSize}
+use Rattle.text.specs.Out.{handSize}
 use Rattle.text.specs.Write.{Wrote}
 use Rattle.text.proofs.Splices.{next, front, long, nothing}
 use Rattle.text.proofs.Numbers.{two-digits}

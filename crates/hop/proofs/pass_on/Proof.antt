@@ -1,6 +1,6 @@
 -- Three changes one after the other: the device, the link that it took from, and the next link.
 use Prim.Native.Nat.{_<_}
-use mathlib.Core.Path.{_≡_, sym, ap, _∙_}
+use mathlib.Core.Path.{_≡_, ap, _∙_}
 use mathlib.Core.List.{tail}
 use native.Mathlib.Omega.{arith}
 use native.Mathlib.Numerals.{add-one}

@@ -1,58 +1,50 @@
--- The area's refusal, then the device's number; else what the device says of the call.
-use mathlib.Core.Path.{refl, sym, _∙_}
+-- Refused as the device was found; else what the device that was found says of the call.
+use mathlib.Core.Path.{sym, _∙_}
+use borrow.Author.Needs.{needs}
 use Rattle.local.specs.Local.{wishes}
 use Rattle.keeps.proofs.Keeps.{wish-good}
-use Rattle.record.specs.Fits.{Bytes}
-use Rattle.area.specs.Loop.{loopOf, device}
-use Rattle.area.proofs.Areas.{loop-good}
-use Rattle.calls.specs.Calls.{refusal, localIn}
-use Rattle.calls.proofs.Outcomes.{judged-wrong, judged-right, place-none, has-place, local-none, local-done}
-use borrow.Author.Needs.{needs}
+use Rattle.find.proofs.Named.{found-there}
+use Rattle.local_calls.proofs.Called.{refused, asked, settled}
 use Rattle.local_calls.proofs.wish.Statement.{statement}
 use Rattle.local_calls.proofs.wish.Tie as tie
 
 returns : tie.Need-returns
-returns c = let s = c .before .before .before .before in judged-wrong refusal
-    (localIn (λ d. wishes d (s .args .wish)) (s .args .device)) (s .args .area .now) _ _ (c .before .judge .ensures)
-    (c .if1 .taken) refl
-
-returns-2 : tie.Need-returns-2
-returns-2 c = let s = c .before .before .before .before .before .before .before .before in let l = loopOf
-    (s .args .area .now) in
-    judged-right refusal (localIn (λ d. wishes d (s .args .wish)) (s .args .device)) (s .args .area .now) _ _ _
-    (c .before .before .before .before .before .judge .ensures) (c .before .before .before .before .if1 .left)
-    (rw (local-none (λ d. wishes d (s .args .wish)) (s .args .device) l
-    (place-none l (s .args .device) (sym (c .before .before .place-of .ensures) ∙ c .enum-told .given .1)))
-    (refl, refl))
+returns c =
+    let m = c .before in
+    let f = m .before .before in
+    let s = f .before .before .before in
+    refused (λ d. wishes d (s .args .wish)) (s .args .area .now) (s .args .device) _
+    (sym (f .find .ensures) ∙ m .wrong .given .1)
 
 device-at-requires : tie.Need-device-at-requires
-device-at-requires c κs = let s = c .before .before .before .before .before .before .before .before .before .before in
-    has-place (s .args .area .now) (s .args .device) _
-    (sym (c .before .before .before .before .before .before .before .judge .ensures)
-    ∙ c .before .before .before .before .before .before .if1 .left)
-    (sym (c .before .before .before .before .place-of .ensures) ∙ c .before .before .i .given .1)
+device-at-requires c κs =
+    let m = c .before .before in
+    let f = m .before .before in
+    let s = f .before .before .before in
+    found-there (s .args .area .now) (s .args .device) _ (sym (f .find .ensures) ∙ m .i .given .1) .0
 
 settle-requires : tie.Need-settle-requires
-settle-requires c κs = let s =
-    c .before .before .before .before .before .before .before .before .before .before .before .before .before in let a = s .args .area .now in let j = sym (c .before .before .before .before .before .before .before .before .before .before .judge .ensures) ∙ c .before .before .before .before .before .before .before .before .before .if1 .left in (
-      has-place a (s .args .device) _ j
-          (sym (c .before .before .before .before .before .before .before .place-of .ensures)
-          ∙ c .before .before .before .before .before .i .given .1),
-      rw (c .before .wish .ensures, c .before .before .device-at .ensures)
-          (wish-good (device (loopOf a) _) (s .args .wish)
-          (loop-good a (λ i. c .before .before .before .before .before .before .before .before .before .before .before .before .slice-known .given i .fits) j .devices _)),
-    )
+settle-requires c κs =
+    let t = c .before in
+    let d = t .before in
+    let m = d .before .before .before in
+    let f = m .before .before in
+    let s = f .before .before .before in
+    asked (λ d. wishes d (s .args .wish)) (s .args .area .now) (s .args .device) _
+    (sym (f .find .ensures) ∙ m .i .given .1) _ _ (d .device-at .ensures) (t .wish .ensures)
+    (λ j. f .before .before .slice-known .given j .fits) (λ x g. wish-good x (s .args .wish) g)
 
-returns-3 : tie.Need-returns-3
-returns-3 c = let s =
-    c .before .before .before .before .before .before .before .before .before .before .before .before .before .before .before .before in let l = loopOf (s .args .area .now) in
-    judged-right refusal (localIn (λ d. wishes d (s .args .wish)) (s .args .device)) (s .args .area .now) _ _ _
-    (c .before .before .before .before .before .before .before .before .before .before .before .before .before .judge .ensures) (c .before .before .before .before .before .before .before .before .before .before .before .before .if1 .left)
-    (rw (local-done (λ d. wishes d (s .args .wish)) (s .args .device) l _ _ _
-    (sym (c .before .before .before .before .before .before .before .before .before .before .place-of .ensures)
-    ∙ c .before .before .before .before .before .before .before .before .i .given .1)
-    (c .before .before .before .before .before .device-at .ensures)
-    (c .before .before .before .before .wish .ensures)) at (c .before .before .settle .ensures))
+returns-2 : tie.Need-returns-2
+returns-2 c =
+    let r = c .before .before in
+    let t = r .before .before in
+    let d = t .before in
+    let m = d .before .before .before in
+    let f = m .before .before in
+    let s = f .before .before .before in
+    settled (λ d. wishes d (s .args .wish)) (s .args .area .now) (s .args .device) _
+    (sym (f .find .ensures) ∙ m .i .given .1) _ _ (d .device-at .ensures) (t .wish .ensures) _ _
+    (r .settle .ensures)
 
 pub wish-spec : {M : Type 1} → statement M
 wish-spec =
@@ -60,14 +52,11 @@ wish-spec =
     (tie.spec
     (λ c κs. search needs)
     (λ c. search needs)
-    returns
-    (λ c κs. search needs)
     (λ c. search needs)
-    (λ c. search needs)
-    (λ c. search needs)
-    returns-2
     device-at-requires
     (λ c κs. search needs)
     settle-requires
     (λ c. search needs)
-    returns-3)
+    returns
+    (λ c. search needs)
+    returns-2)

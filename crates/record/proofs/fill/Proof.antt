@@ -1,5 +1,4 @@
 -- `record::fill` meets its contract: a copy into the bytes that were lent is a splice.
-use mathlib.Core.Path.{_≡_, ap, _∙_}
 use borrow.Author.Needs.{needs}
 use Rattle.record.proofs.Parts.{filled}
 use Rattle.record.proofs.fill.Statement.{statement}

@@ -1,10 +1,9 @@
 -- `record::write` meets its contract: head, ID and data, put in one after the other, are the whole record.
 use mathlib.Core.Path.{_≡_, _∙_}
-use mathlib.Core.List.{List, _++_}
+use mathlib.Core.List.{List}
 use Prim.Native.Nat.{ℕ}
 use borrow.Author.Needs.{needs}
 use lib.ListN.{length}
-use Rattle.device.specs.PowerOn.{bytesFrom}
 use Rattle.device.specs.declared.Device.{Device}
 use Rattle.device.proofs.Bytes.{bytes-all}
 use Rattle.record.specs.Record.{headOf, recordOf}

@@ -1,9 +1,9 @@
 -- Device by device: what is left and written, and what the devices behind do, is what all devices do.
-use mathlib.Core.Path.{refl, sym, _∙_}
+use mathlib.Core.Path.{sym, _∙_}
 use native.Mathlib.Omega.{arith}
 use Prim.Native.Nat.{_-_}
 use borrow.Author.Needs.{needs}
-use Rattle.area.specs.Loop.{loopOf, size}
+use Rattle.area.specs.Loop.{size}
 use Rattle.round.proofs.Held.{Area, area-of, judged, devices, counted, few, long}
 use Rattle.round.proofs.Hopping as laws
 use Rattle.round.proofs.Hopping.{Hopping}

@@ -1,9 +1,9 @@
 -- Put, hops and take are the calls of the definition, and the frame line stands behind the hand lines.
-use mathlib.Core.Path.{sym, _∙_}
+use mathlib.Core.Path.{_∙_}
 use native.Mathlib.Omega.{arith}
 use borrow.Author.Needs.{needs}
 use Rattle.area.specs.Loop.{loopOf, size}
-use Rattle.round.proofs.Held.{Area, area-of, judged, long, put-held, round-held}
+use Rattle.round.proofs.Held.{Area, area-of, judged, put-held}
 use Rattle.round.proofs.Hopping.{round-area, round-text}
 use Rattle.round.proofs.round.Statement.{statement}
 use Rattle.round.proofs.round.Tie as tie

@@ -5,7 +5,6 @@ use native.Mathlib.Omega.{arith}
 use lib.ListN.{length}
 use lib.Seq.{length-take-le}
 use borrow.Author.Needs.{needs}
-use Rattle.area.specs.Sizes.{itemSize}
 use Rattle.script.specs.Script.{groupSize}
 use Rattle.script.proofs.Items.{Filling, first, fill, filled}
 use Rattle.text.proofs.Splices.{nothing}

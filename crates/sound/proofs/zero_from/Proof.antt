@@ -2,7 +2,7 @@
 -- just
 -- where all was at the start.
 use Prim.Native.Nat.{_-_, max}
-use mathlib.Core.Path.{_≡_, refl, sym, _∙_}
+use mathlib.Core.Path.{_≡_, sym, _∙_}
 use mathlib.Core.Bool.{_&&_}
 use lib.ListN.{length, drop}
 use borrow.Author.Needs.{needs}

@@ -1,6 +1,4 @@
 -- The ten bytes lent are those of link j, and with them given back the area is that of the loop without the frame.
-use mathlib.Core.Path.{_≡_}
-use Rattle.area.specs.Link.{framesOf}
 use Rattle.record.specs.Fits.{Bytes}
 use Rattle.area.proofs.Held.{frames-lent, link-lent, removed}
 use borrow.Author.Needs.{needs}

@@ -2,7 +2,7 @@
 use Prim.Native.Nat.{_<_}
 use mathlib.Core.Path.{_≡_}
 use native.Mathlib.Omega.{arith}
-use lib.ListN.{length, getD, length-set}
+use lib.ListN.{length, length-set}
 use Rattle.area.specs.Sizes.{depth}
 use Rattle.area.specs.Link.{framesOf}
 use Rattle.area.proofs.Links.{room-is, count-in, longer-is}

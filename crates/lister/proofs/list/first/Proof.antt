@@ -1,6 +1,5 @@
 -- Line 1 is wrong, or its devices are refused or set up.
 use mathlib.Core.Path.{refl, sym, _∙_}
-use native.Mathlib.Omega.{arith}
 use borrow.Author.Needs.{needs}
 use Rattle.text.proofs.Splices.{nothing}
 use Rattle.lister.proofs.Doing.{did, devices, first-wrong, first-refused, first-done}

@@ -1,0 +1,2 @@
+-- Named has what a call on a device by its number does, by what was found.
+pub mod Named

@@ -1,0 +1,2 @@
+-- A device by its number.
+pub mod Find
