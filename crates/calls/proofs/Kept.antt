@@ -21,8 +21,8 @@ use Rattle.area.specs.declared.Place.{Place}
 use Rattle.area.proofs.Links.{oldest-is, frames-less, frames-more}
 use Rattle.area.proofs.Areas.{device-kept, link-kept}
 use Rattle.calls.specs.Outcome.{Outcome, refuse, done, loopAfter}
-use Rattle.calls.specs.Calls.{noDevice, full, hasRoom, putIn, takeIn, takeFrom, hopAnswer, sentBy, passed, hopFrom}
-use Rattle.calls.specs.Calls.{hopIn, localIn}
+use Rattle.calls.specs.Calls.{noDevice, full, hasRoom, putIn, takeIn, takeFrom, hopAnswer, sentBy, passed}
+use Rattle.calls.specs.Calls.{hopFrom, hopIn, localIn}
 use Rattle.calls.specs.Drain.{noHopLeft, budgetSpent, highest, stopped, handedTo, turned, onPlace, drainFrom}
 use Rattle.calls.specs.Laws.{Kept, PutKeeps, TakeKeeps, HopKeeps, Keeps, DrainKeeps}
 use Rattle.calls.specs.declared.HopAnswer.{HopAnswer}

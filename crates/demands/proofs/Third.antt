@@ -24,8 +24,7 @@ use Rattle.order.specs.Through.{Every, FairCall, callsOf}
 use Rattle.order.specs.Order.{SameAs}
 use Rattle.order.proofs.Order.{any-order, agree}
 use Rattle.order.proofs.Written.{run-puts, round-fair, calls-fair, writes-all}
-use Rattle.demands.specs.Calls.{Byte, numbers, Action, put, hop, take, drain, setUp, Answer}
-use Rattle.demands.specs.Calls.{pil}
+use Rattle.demands.specs.Calls.{Byte, numbers, Action, put, hop, take, drain, setUp, Answer, pil}
 use Rattle.demands.specs.Conditions.{devicesAt, lowest}
 use Rattle.demands.specs.Histories.{history, total, refusedBy, areaLeft, framesPut, framesTaken, bytesHanded}
 use Rattle.demands.specs.Histories.{hopsMade, callsRefused, toLoad, toStatus, toWish, model, allCalls}
@@ -235,7 +234,8 @@ module _ (ss : List Device) (good : Sound-loop (toLoop (line.idle ss))) (cs ds :
         area-is at good cs
             ∙ ap (λ (r : line.Loop model × List (line.Event model)). areaOf (toLoop (r .0))) u
             ∙ ap (λ (r : List Device). areaOf (toLoop (line.idle r))) (g .0)
-            ∙ sym (area-is at good ds ∙ ap (λ (r : line.Loop model × List (line.Event model)). areaOf (toLoop (r .0))) v),
+            ∙ sym
+            (area-is at good ds ∙ ap (λ (r : line.Loop model × List (line.Event model)). areaOf (toLoop (r .0))) v),
         taken-are at good cs ∙ g .1 ∙ sym (taken-are at good ds),
         λ i. handed-are at good cs i ∙ g .2 i ∙ sym (handed-are at good ds i),
         hops-are at good cs ∙ g .3 ∙ sym (hops-are at good ds),

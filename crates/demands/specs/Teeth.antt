@@ -7,8 +7,7 @@ use Rattle.device.specs.PowerOn.{powerOn}
 use Rattle.device.specs.Take.{takes}
 use Rattle.area.specs.Loop.{Loop, areaOf}
 use Rattle.calls.specs.Outcome.{After, after}
-use Rattle.demands.specs.Calls.{hop, Call, does, Answer, pil}
-use Rattle.demands.specs.Calls.{refusalIn, bare}
+use Rattle.demands.specs.Calls.{hop, Call, does, Answer, pil, refusalIn, bare}
 use Rattle.demands.specs.Conditions.{Empty, Full}
 use Rattle.demands.specs.Demands.{Refuses}
 

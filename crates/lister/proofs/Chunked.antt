@@ -6,8 +6,7 @@ use mathlib.Core.List.{List, [], _++_, append-nil}
 use mathlib.Core.Bool.{Bool, true, false, cond}
 use native.Mathlib.Omega.{arith}
 use lib.Dec.{ltb, leb}
-use lib.ListN.{length, take, drop, replicate, length-append, length-drop, length-replicate}
-use lib.ListN.{drop-of-length-le}
+use lib.ListN.{length, take, drop, replicate, length-append, length-drop, length-replicate, drop-of-length-le}
 use lib.Seq.{length-take-le}
 use borrow.Author.Tests.{ltb-true, ltb-false, leb-true, leb-false, le-leb}
 use Rattle.bytes.specs.Bytes.{indexOf}
@@ -23,9 +22,7 @@ use Rattle.text.specs.Out.{badLine, longLine}
 use Rattle.script.specs.Script.{devicesIn, loopRight, itemsIn}
 use Rattle.lister.specs.Listing.{longest, framesListed, setUp, setUpListed, scriptListed, listing}
 use Rattle.round.specs.Round.{textRoom}
-use Rattle.lister.specs.Chunks.{areaRoom, over, Does, does, lineAt, setUpIn, setUpDoes}
-use Rattle.lister.specs.Chunks.{firstDoes}
-use Rattle.lister.specs.Chunks.{startDoes}
+use Rattle.lister.specs.Chunks.{areaRoom, over, Does, does, lineAt, setUpIn, setUpDoes, firstDoes, startDoes}
 use Rattle.lister.specs.Laws.{textFrom, nextFrom, ChunksList}
 use Rattle.lister.specs.declared.Next.{Next}
 use Rattle.lister.proofs.Cut.{index-within, lines-cut}

@@ -22,10 +22,9 @@ ghost use mathlib.Core.Bool.{true};
 ghost use Prim.Native.Nat.{_+_, _^_, _≤_, _<_};
 ghost use lib.ListN.{length};
 ghost use Rattle.script.specs.Script.{loopIn};
-ghost use Rattle.lister.specs.Chunks.{areaRoom, roomy, ready, Did};
+ghost use Rattle.lister.specs.Chunks.{areaRoom, roomy, ready, Did, firstDoes, startDoes, lineDoes, stepDoes};
 ghost use Rattle.round.specs.Round.{textRoom};
 ghost use Rattle.lister.specs.Inner.{SetUp};
-ghost use Rattle.lister.specs.Chunks.{firstDoes, startDoes, lineDoes, stepDoes};
 
 // Bytes of the items of as many devices as a loop can have.
 const ITEMS_ROOM: usize = ITEM_SIZE * MOST_DEVICES;

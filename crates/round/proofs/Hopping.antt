@@ -14,11 +14,9 @@ use Rattle.calls.specs.Calls.{noHop, hopIn, hopOf, takeOf}
 use Rattle.calls.specs.declared.HopAnswer.{HopAnswer}
 use Rattle.calls.specs.declared.TakeAnswer.{TakeAnswer}
 use Rattle.calls.proofs.Outcomes.{call-done}
-use Rattle.text.specs.Out.{handLine, frameLine}
+use Rattle.text.specs.Out.{handSize, handLine, frameLine}
 use Rattle.round.specs.Round.{handed, hopsText, hopsArea, putArea, hoppedArea, roundText, roundArea}
-use Rattle.round.specs.Round.{textRoom}
-use Rattle.round.specs.Round.{Hopped}
-use Rattle.text.specs.Out.{handSize}
+use Rattle.round.specs.Round.{textRoom, Hopped}
 use Rattle.text.specs.Write.{Wrote}
 use Rattle.text.proofs.Splices.{next, front, long, nothing}
 use Rattle.text.proofs.Numbers.{two-digits}

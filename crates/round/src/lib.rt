@@ -10,9 +10,7 @@ ghost use mathlib.Core.Path.{_≡_};
 ghost use Prim.Native.Nat.{_+_, _≤_, _<_};
 ghost use lib.ListN.{length};
 ghost use Rattle.area.specs.Loop.{judgeOf};
-ghost use Rattle.round.specs.Round.{handed, roundText, roundArea};
-ghost use Rattle.round.specs.Round.{textRoom};
-ghost use Rattle.round.specs.Round.{Hopped};
+ghost use Rattle.round.specs.Round.{handed, roundText, roundArea, textRoom, Hopped};
 ghost use Rattle.text.specs.Out.{handSize};
 ghost use Rattle.text.specs.Write.{Wrote};
 

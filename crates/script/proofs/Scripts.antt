@@ -16,8 +16,8 @@ use Rattle.area.specs.Sizes.{mostDevices}
 use Rattle.area.specs.Parts.{all}
 use Rattle.text.specs.Words.{loopWord, begins}
 use Rattle.text.specs.Digits.{digitAt}
-use Rattle.script.specs.Script.{wordSize, groupSize, devicesIn, groupsIn, groupRight, loopRight, loopIn, frameRight}
-use Rattle.script.specs.Script.{frameIn}
+use Rattle.script.specs.Script.{wordSize, groupSize, devicesIn, groupsIn, groupRight, loopRight, loopIn}
+use Rattle.script.specs.Script.{frameRight, frameIn}
 use Rattle.script.specs.declared.FrameLine.{FrameLine}
 use Rattle.script.specs.declared.LoopLine.{LoopLine}
 

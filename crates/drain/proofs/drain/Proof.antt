@@ -6,13 +6,21 @@ use Rattle.drain.proofs.drain.Statement.{statement}
 use Rattle.drain.proofs.drain.Tie as tie
 
 returns : tie.Need-returns
-returns c = let s = c .before .before .before .before .before in judged-wrong noDrain (drainIn (s .args .budget))
-    (s .args .area .now) _ _ (c .before .before .judge .ensures) (c .before .if1 .taken) (c .no-drain .ensures)
+returns c =
+    let i = c .before in
+    let j = i .before in
+    let s = j .before .before .before in
+    judged-wrong noDrain (drainIn (s .args .budget)) (s .args .area .now) _ _ (j .judge .ensures) (i .if1 .taken)
+    (c .no-drain .ensures)
 
 returns-2 : tie.Need-returns-2
-returns-2 c = let s = c .before .before .before .before .before .before .before .before in judged-right noDrain
-    (drainIn (s .args .budget)) (s .args .area .now) _ _ _ (c .before .before .before .before .before .judge .ensures)
-    (c .before .before .before .before .if1 .left) (c .before .before .drain-in .ensures)
+returns-2 c =
+    let d = c .before .before in
+    let i = d .before .before in
+    let j = i .before in
+    let s = j .before .before .before in
+    judged-right noDrain (drainIn (s .args .budget)) (s .args .area .now) _ _ _ (j .judge .ensures) (i .if1 .left)
+    (d .drain-in .ensures)
 
 pub drain-spec : {M : Type 1} → statement M
 drain-spec =

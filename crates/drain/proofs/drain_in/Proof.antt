@@ -33,74 +33,96 @@ found : (c : tie.Then2 Inv-search μ-search Inv-turns μ-turns) →
     let q = c .before .before .before .before in let t = q .before in let i = q .search .i - 1 in
     (highest (t .before .devices-in .result) (loopOf (t .turns .area)) ≡ Place.At i) ×
     (i < t .before .devices-in .result) × (canHop i (loopOf (t .turns .area)) ≡ true)
-found c = let q = c .before .before .before .before in let can = sym (c .before .can-hop .ensures) ∙ c .if2 .taken in (
-  q .search .inv .1 ∙ highest-found (q .search .i) (loopOf (q .before .turns .area))
-      (omega (arith, c .before .before .before .if1 .left)) can,
-  omega (arith, q .search .inv .0, c .before .before .before .if1 .left),
-  can,
-)
+found c =
+    let v = c .before in
+    let i = v .before .before in
+    let q = i .before in
+    let can = sym (v .can-hop .ensures) ∙ c .if2 .taken in (
+      q .search .inv .1 ∙ highest-found (q .search .i) (loopOf (q .before .turns .area))
+          (omega (arith, i .if1 .left)) can,
+      omega (arith, q .search .inv .0, i .if1 .left),
+      can,
+    )
 
 devices-in-requires : tie.Need-devices-in-requires Inv-search μ-search Inv-turns μ-turns
 devices-in-requires c κs = c .before .before .pre
 
 turns-holds : tie.Need-turns-holds Inv-search μ-search Inv-turns μ-turns
-turns-holds c = let s = c .before .before .before in (
-  first-turn (s .args .area .now) (s .args .budget) _ (λ i. c .before .before .slice-known .given i .fits) (s .pre)
-      (c .devices-in .ensures .0),
-  refl,
-  refl,
-  refl,
-)
+turns-holds c =
+    let z = c .before .before in
+    let s = z .before in (
+      first-turn (s .args .area .now) (s .args .budget) _ (λ i. z .slice-known .given i .fits) (s .pre)
+          (c .devices-in .ensures .0),
+      refl,
+      refl,
+      refl,
+    )
 
 search-holds : tie.Need-search-holds Inv-search μ-search Inv-turns μ-turns
 search-holds c = (omega arith, refl)
 
 can-hop-requires : tie.Need-can-hop-requires Inv-search μ-search Inv-turns μ-turns
-can-hop-requires c κs = let t = c .before .before .before .turns .inv .0 in
-    record {
-      judged = t .holds .judged;
-      there = omega
-          (arith, t .count, c .before .before .search .inv .0, c .before .if1 .left);
-    }
+can-hop-requires c κs =
+    let i = c .before in
+    let r = i .before in
+    let w = r .before in
+    let t = w .turns .inv .0 in
+    record { judged = t .holds .judged; there = omega (arith, t .count, r .search .inv .0, i .if1 .left) }
 
 search-again : tie.Need-search-again Inv-search μ-search Inv-turns μ-turns
-search-again c = (
-  omega arith,
-  c .before .before .before .before .search .inv .1
-      ∙ highest-next (c .before .before .before .before .search .i)
-      (loopOf (c .before .before .before .before .before .turns .area)) (omega arith)
-      (sym (c .before .can-hop .ensures) ∙ c .if2 .left),
-)
+search-again c =
+    let v = c .before in
+    let r = v .before .before .before in
+    let w = r .before in (
+      omega arith,
+      r .search .inv .1 ∙ highest-next (r .search .i) (loopOf (w .turns .area)) (omega arith)
+          (sym (v .can-hop .ensures) ∙ c .if2 .left),
+    )
 
 hop-at-requires : tie.Need-hop-at-requires Inv-search μ-search Inv-turns μ-turns
-hop-at-requires c κs = let t = c .before .before .before .before .before .before .before .turns .inv .0 in
-    record { judged = t .holds .judged; there = omega (arith, t .count, found (c .before .before) .1) }
+hop-at-requires c κs =
+    let u = c .before .before in
+    let w = u .before .before .before .before .before in
+    let t = w .turns .inv .0 in
+    record { judged = t .holds .judged; there = omega (arith, t .count, found u .1) }
 
 add-hops : tie.Need-add-hops Inv-search μ-search Inv-turns μ-turns
-add-hops c = let s = c .before .before .before .before .before .before .before .before .before .before .before .before .before .before in let a = s .args .area .now in
-    omega (arith, c .before .before .before .before .before .before .before .before .before .before .turns .inv .0 .paid, owed-at-most (loopOf a) (loop-good a (λ i. c .before .before .before .before .before .before .before .before .before .before .before .before .before .slice-known .given i .fits) (s .pre)))
+add-hops c =
+    let w = c .before .before .before .before .before .before .before .before .before .before in
+    let z = w .before .before .before in
+    let s = z .before in
+    let a = s .args .area .now in
+    omega (
+      arith,
+      w .turns .inv .0 .paid,
+      owed-at-most (loopOf a)
+          (loop-good a (λ i. z .slice-known .given i .fits) (s .pre)),
+    )
 
 cast-device : tie.Need-cast-device Inv-search μ-search Inv-turns μ-turns
-cast-device c = omega (
-  arith,
-  found (c .before .before .before .before .before .before .before) .1,
-  c .before .before .before .before .before .before .before .before .before .before .before .before .before .devices-in .ensures,
-)
+cast-device c =
+    let u = c .before .before .before .before .before .before .before in
+    let n = u .before .before .before .before .before .before in
+    omega (arith, found u .1, n .devices-in .ensures)
 
 turns-less : tie.Need-turns-less Inv-search μ-search Inv-turns μ-turns
-turns-less c = omega (
-  arith,
-  c .before .before .before .before .before .before .before .before .before .before .before .before .turns .inv .0 .within,
-  c .before .before .before .before .before .before .if3 .left,
-)
+turns-less c =
+    let m = c .before .before .before .before .before .before in
+    let w = m .before .before .before .before .before .before in
+    omega (arith, w .turns .inv .0 .within, m .if3 .left)
 
 turns-again : tie.Need-turns-again Inv-search μ-search Inv-turns μ-turns
-turns-again c = let t =
-    c .before .before .before .before .before .before .before .before .before .before .before .before .turns in let p = c .before .before .before .before .hop-at in let f = found (c .before .before .before .before .before .before .before) in (
-      next-turn _ (t .area) _ _ (t .hops) (t .inv .0)
-          (c .before .before .before .before .before .before .before .before .before .before .before .search .i - 1)
-          (f .0) (f .1) (f .2) (c .before .before .before .before .before .before .if3 .left) (p .result) _
-          (p .ensures) (c .if4 .left) (p .kept .0),
+turns-again c =
+    let h = c .before .before .before .before in
+    let m = h .before .before in
+    let u = m .before in
+    let r = u .before .before .before .before in
+    let w = r .before in
+    let t = w .turns in
+    let p = h .hop-at in
+    let f = found u in (
+      next-turn _ (t .area) _ _ (t .hops) (t .inv .0) (r .search .i - 1) (f .0) (f .1) (f .2) (m .if3 .left)
+          (p .result) _ (p .ensures) (c .if4 .left) (p .kept .0),
       t .inv .1,
       t .inv .2,
       t .inv .3,
@@ -115,24 +137,36 @@ returns c = let t = c .before .before .turns in
     (c .before .search .inv .1 ∙ rw (c .if1 .taken) (highest-none (loopOf (t .area))))
 
 same-length-2 : tie.Need-same-length-2 Inv-search μ-search Inv-turns μ-turns
-same-length-2 c = c .before .before .before .before .before .before .turns .inv .0 .long
+same-length-2 c =
+    let w = c .before .before .before .before .before .before in
+    w .turns .inv .0 .long
 
 returns-2 : tie.Need-returns-2 Inv-search μ-search Inv-turns μ-turns
-returns-2 c = let t = c .before .before .before .before .before .before .turns in
-    none-more _ (t .area) _ _ (t .hops) (t .inv .0) (t .device) (t .byte) (t .end) (t .inv .1, t .inv .2, t .inv .3) _
-    (found (c .before) .0) (c .if3 .taken)
+returns-2 c =
+    let u = c .before in
+    let w = u .before .before .before .before .before in
+    let t = w .turns in
+    none-more _ (t .area) _ _ (t .hops) (t .inv .0) (t .device) (t .byte) (t .end) (t .inv .1, t .inv .2, t .inv .3)
+    _ (found u .0) (c .if3 .taken)
 
 same-length-3 : tie.Need-same-length-3 Inv-search μ-search Inv-turns μ-turns
-same-length-3 c = c .before .before .before .before .hop-at .kept .0
-    ∙ c .before .before .before .before .before .before .before .before .before .before .before .before .turns .inv .0 .long
+same-length-3 c =
+    let h = c .before .before .before .before in
+    let w = h .before .before .before .before .before .before .before .before in
+    h .hop-at .kept .0 ∙ w .turns .inv .0 .long
 
 returns-3 : tie.Need-returns-3 Inv-search μ-search Inv-turns μ-turns
-returns-3 c = let t =
-    c .before .before .before .before .before .before .before .before .before .before .before .before .turns in let p = c .before .before .before .before .hop-at in let f = found (c .before .before .before .before .before .before .before) in
-    handed-over _ (t .area) _ _ (t .hops) (t .inv .0)
-    (c .before .before .before .before .before .before .before .before .before .before .before .search .i - 1)
-    (f .0) (f .1) (f .2) (c .before .before .before .before .before .before .if3 .left) (p .result) _
-    (p .ensures) (c .if4 .taken)
+returns-3 c =
+    let h = c .before .before .before .before in
+    let m = h .before .before in
+    let u = m .before in
+    let r = u .before .before .before .before in
+    let w = r .before in
+    let t = w .turns in
+    let p = h .hop-at in
+    let f = found u in
+    handed-over _ (t .area) _ _ (t .hops) (t .inv .0) (r .search .i - 1) (f .0) (f .1) (f .2) (m .if3 .left)
+    (p .result) _ (p .ensures) (c .if4 .taken)
 
 pub drain-in-spec : {M : Type 1} → statement M
 drain-in-spec =

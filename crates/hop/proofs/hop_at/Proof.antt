@@ -12,41 +12,56 @@ use Rattle.hop.proofs.hop_at.Statement.{statement}
 use Rattle.hop.proofs.hop_at.Tie as tie
 
 returns : tie.Need-returns
-returns c = let s = c .before .before .before .before .before .before in
+returns c =
+    let e = c .before in
+    let o = e .before .before in
+    let s = o .before .before .before in
     rw (hop-empty (s .args .i) (loopOf (s .args .area .now)) (s .pre .there)
-    (sym (c .before .before .before .oldest-at .ensures) ∙ c .before .enum-told .given .1))
-    (c .no-hop .ensures, refl)
+    (sym (o .oldest-at .ensures) ∙ e .enum-told .given .1)) (c .no-hop .ensures, refl)
 
 add-room-at : tie.Need-add-room-at
-add-room-at c = let s = c .before .before .before .before .before .before .before in omega
-    (arith, s .pre .there, sized (s .args .area .now) (s .pre .judged))
+add-room-at c =
+    let s = c .before .before .before .before .before .before .before in
+    omega (arith, s .pre .there, sized (s .args .area .now) (s .pre .judged))
 
 returns-2 : tie.Need-returns-2
-returns-2 c = let s = c .before .before .before .before .before .before .before .before .before .before .before in
+returns-2 c =
+    let e = c .before in
+    let q = e .before .before in
+    let f = q .before .before .before in
+    let o = f .before .before in
+    let s = o .before .before .before in
     rw (hop-full (s .args .i) (loopOf (s .args .area .now)) _ (s .pre .there)
-    (sym (c .before .before .before .before .before .before .before .before .oldest-at .ensures)
-    ∙ c .before .before .before .before .before .before .frame .given .1)
-    (sym (rw add-one at (c .before .before .before .room-at .ensures)) ∙ c .before .enum-told2 .given .1))
-    (c .no-hop2 .ensures, refl)
+    (sym (o .oldest-at .ensures) ∙ f .frame .given .1)
+    (sym (rw add-one at (q .room-at .ensures)) ∙ e .enum-told2 .given .1)) (c .no-hop2 .ensures, refl)
 
 pass-on-requires : tie.Need-pass-on-requires
 pass-on-requires c κs =
+    let b = c .before .before in
+    let q = b .before .before in
+    let f = q .before .before .before in
+    let o = f .before .before in
+    let s = o .before .before .before in
     record {
-      has = c .before .before .before .before .before .before .before .before .before .before .before .before .pre;
-      oldest = sym (c .before .before .before .before .before .before .before .before .before .oldest-at .ensures)
-          ∙ c .before .before .before .before .before .before .before .frame .given .1;
-      room = sym (rw add-one at (c .before .before .before .before .room-at .ensures))
-          ∙ c .before .before .behind .given .1;
+      has = s .pre;
+      oldest = sym (o .oldest-at .ensures) ∙ f .frame .given .1;
+      room = sym
+          (rw add-one at (q .room-at .ensures)) ∙ b .behind .given .1;
     }
 
 returns-3 : tie.Need-returns-3
-returns-3 c = let s =
-    c .before .before .before .before .before .before .before .before .before .before .before .before .before .before .before .before in
+returns-3 c =
+    let p = c .before .before .before in
+    let b = p .before .before .before in
+    let q = b .before .before in
+    let f = q .before .before .before in
+    let o = f .before .before in
+    let s = o .before .before .before in
     rw (hop-done (s .args .i) (loopOf (s .args .area .now)) _ _ (s .pre .there)
-    (sym (c .before .before .before .before .before .before .before .before .before .before .before .before .before .oldest-at .ensures) ∙ c .before .before .before .before .before .before .before .before .before .before .before .frame .given .1) (sym (rw add-one at (c .before .before .before .before .before .before .before .before .room-at .ensures)) ∙ c .before .before .before .before .before .before .behind .given .1)) (
-      c .hop-answer .ensures
-          ∙ ap (λ (t : Sent). hopAnswer (t .frame) (t .handed)) (c .before .before .before .pass-on .ensures .0),
-      c .before .before .before .pass-on .ensures .1 .written,
+    (sym (o .oldest-at .ensures) ∙ f .frame .given .1)
+    (sym (rw add-one at (q .room-at .ensures)) ∙ b .behind .given .1)) (
+      c .hop-answer .ensures ∙ ap (λ (t : Sent). hopAnswer (t .frame) (t .handed)) (p .pass-on .ensures .0),
+      p .pass-on .ensures .1 .written,
     )
 
 pub hop-at-spec : {M : Type 1} → statement M

@@ -24,53 +24,73 @@ use Rattle.hop.proofs.pass_on.Tie as tie
 sent-is : (c : tie.After-take) →
     let s = c .before .before .before .before in c .take .result ≡ sentBy (s .args .i) (s .args .frame)
     (loopOf (s .args .area .now))
-sent-is c = let s = c .before .before .before .before in c .take .ensures
-    ∙ ap (λ (d : Device). takes d (s .args .frame)) (c .before .device-at .ensures)
+sent-is c =
+    let g = c .before in
+    let s = g .before .before .before in
+    c .take .ensures ∙ ap (λ (d : Device). takes d (s .args .frame)) (g .device-at .ensures)
 
 -- leaves it good, and is a frame
 good : (c : tie.After-take) → Good (c .take .result .device) × (c .take .result .frame < frames)
-good c = let s = c .before .before .before .before in let a = s .args .area .now in
-    rw (sent-is c)
-    (sent-good (loopOf a)
-    (loop-good a (λ i. c .before .before .before .slice-known .given i .fits) (s .pre .has .judged)) (s .args .i)
-    (s .args .frame) (s .pre .oldest))
+good c =
+    let z = c .before .before .before in
+    let s = z .before in
+    let a = s .args .area .now in
+    rw (sent-is c) (sent-good (loopOf a) (loop-good a (λ i. z .slice-known .given i .fits) (s .pre .has .judged))
+    (s .args .i) (s .args .frame) (s .pre .oldest))
 
 -- the loop after the second change
 held : (c : tie.After-remove-at) →
     let t = c .before .before .before .before .before .before .before in let s = t .before .before .before .before in
     Holds (c .remove-at .last .0)
     (remove (s .args .i) (setDevice (s .args .i) (t .take .result .device) (loopOf (s .args .area .now))))
-held c = rw (c .before .before .before .before .set-device .ensures .held) at (c .remove-at .ensures)
+held c =
+    let d = c .before .before .before .before in
+    rw (d .set-device .ensures .held) at (c .remove-at .ensures)
 
 set-device-requires : tie.Need-set-device-requires
-set-device-requires c κs = (c .before .before .before .before .before .before .pre .has, good (c .before .before) .0)
+set-device-requires c κs =
+    let u = c .before .before in
+    let s = u .before .before .before .before in
+    (s .pre .has, good u .0)
 
 remove-at-requires : tie.Need-remove-at-requires
-remove-at-requires c κs = let s =
-    c .before .before .before .before .before .before .before .before .before .before in let h =
-    c .before .before .before .set-device .ensures in (
+remove-at-requires c κs =
+    let d = c .before .before .before in
+    let s = d .before .before .before .before .before .before .before in
+    let h = d .set-device .ensures in (
       record { judged = h .judged; there = rw (h .held, length-set) (omega (arith, s .pre .has .there)) },
-      rw (h .held) (some-frame (link (loopOf (s .args .area .now)) (s .args .i)) _ (s .pre .oldest)),
+      rw
+          (h .held) (some-frame (link (loopOf (s .args .area .now)) (s .args .i)) _ (s .pre .oldest)),
     )
 
 add-add-at : tie.Need-add-add-at
-add-add-at c = let s =
-    c .before .before .before .before .before .before .before .before .before .before .before .before .before .before in omega (arith, s .pre .has .there, sized (s .args .area .now) (s .pre .has .judged))
+add-add-at c =
+    let t = c .before .before .before .before .before .before .before in
+    let s = t .before .before .before .before .before .before .before in
+    omega (arith, s .pre .has .there, sized (s .args .area .now) (s .pre .has .judged))
 
 add-at-requires : tie.Need-add-at-requires
-add-at-requires c κs = let t =
-    c .before .before .before .before .before .before .before .before .before .before in let s =
-    c .before .before .before .before .before .before .before .before .before .before .before .before .before .before in let h = held (c .before .before .before) in let l = loopOf (s .args .area .now) in (
+add-at-requires c κs =
+    let u = c .before .before .before in
+    let t = u .before .before .before .before .before .before .before in
+    let s = t .before .before .before .before in
+    let h = held u in
+    let l = loopOf (s .args .area .now) in (
       record { judged = h .judged; there = rw (h .held, length-set) (omega (arith, s .pre .has .there)) },
-      rw (h .held, add-one)
-          (ap roomOf (link-next (s .args .i) (tail (link l (s .args .i)))
+      rw
+          (h .held, add-one) (ap roomOf (link-next (s .args .i) (tail (link l (s .args .i)))
           (setDevice (s .args .i) (t .take .result .device) l)) ∙ s .pre .room),
       good t .1,
     )
 
 returns : tie.Need-returns
-returns c = let e = sent-is
-    (c .before .before .before .before .before .before .before .before .before .before .before .before .before) in let h = c .before .before .add-at .ensures in (e, rw (held (c .before .before .before .before .before .before) .held, e, add-one) at h)
+returns c =
+    let w = c .before .before in
+    let v = w .before .before .before .before in
+    let u = v .before .before .before .before .before .before .before in
+    let e = sent-is u in
+    let h = w .add-at .ensures in
+    (e, rw (held v .held, e, add-one) at h)
 
 pub pass-on-spec : {M : Type 1} → statement M
 pass-on-spec =

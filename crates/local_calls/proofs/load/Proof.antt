@@ -29,10 +29,13 @@ settle-requires c κs =
     let d = t .before in
     let m = d .before .before .before in
     let f = m .before .before in
-    let s = f .before .before .before .before in
+    let b = f .before .before in
+    let a = b .before in
+    let s = a .before in
     asked (λ d. loads d (s .args .bytes .now)) (s .args .area .now) (s .args .device) _
     (sym (f .find .ensures) ∙ m .i .given .1) _ _ (d .device-at .ensures) (t .load .ensures)
-    (λ j. f .before .before .before .slice-known .given j .fits) (λ x g. load-good x (s .args .bytes .now) (λ j. f .before .before .shared-slice-known .given j .fits) g)
+    (λ j. a .slice-known .given j .fits)
+    (λ x g. load-good x (s .args .bytes .now) (λ j. b .shared-slice-known .given j .fits) g)
 
 returns-2 : tie.Need-returns-2
 returns-2 c =

@@ -9,8 +9,10 @@ returns : tie.Need-returns
 returns c = rw (ne-eqb _ _ (c .if1 .taken)) (refl, refl)
 
 returns-2 : tie.Need-returns-2
-returns-2 c = rw (eq-eqb _ _ (c .before .before .before .before .before .if1 .left))
-    (refl, c .before .before .set-device .ensures .written)
+returns-2 c =
+    let d = c .before .before in
+    let i = d .before .before .before in
+    rw (eq-eqb _ _ (i .if1 .left)) (refl, d .set-device .ensures .written)
 
 pub settle-spec : {M : Type 1} → statement M
 settle-spec =

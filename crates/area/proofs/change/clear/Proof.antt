@@ -1,8 +1,7 @@
 -- The first i bytes are 0, and those behind them are as they were.
-use Prim.Native.Nat.{_≤_, _-_}
+use Prim.Native.Nat.{_≤_, _-_, ℕ}
 use mathlib.Core.Path.{_≡_, refl, ap, _∙_}
 use mathlib.Core.List.{List, _++_, append-nil}
-use Prim.Native.Nat.{ℕ}
 use native.Mathlib.Omega.{arith}
 use lib.ListN.{set, length, drop, replicate, length-set, drop-of-length-le}
 use borrow.Author.Fill.{fill-more}

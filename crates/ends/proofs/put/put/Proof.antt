@@ -9,45 +9,58 @@ use Rattle.ends.proofs.put.put.Statement.{statement}
 use Rattle.ends.proofs.put.put.Tie as tie
 
 returns : tie.Need-returns
-returns c = let s = c .before .before .before .before in judged-wrong refusal (putIn (s .args .frame))
-    (s .args .area .now) _ _ (c .before .judge .ensures) (c .if1 .taken) refl
+returns c =
+    let j = c .before in
+    let s = j .before .before .before in
+    judged-wrong refusal (putIn (s .args .frame)) (s .args .area .now) _ _ (j .judge .ensures) (c .if1 .taken) refl
 
 returns-2 : tie.Need-returns-2
-returns-2 c = let s = c .before .before .before .before .before in let a = s .args .area .now in
-    judged-right refusal (putIn (s .args .frame)) a _ _ _ (c .before .before .judge .ensures) (c .before .if1 .left)
+returns-2 c =
+    let i = c .before in
+    let j = i .before in
+    let s = j .before .before .before in
+    let a = s .args .area .now in
+    judged-right refusal (putIn (s .args .frame)) a _ _ _ (j .judge .ensures) (i .if1 .left)
     (rw (put-bad (s .args .frame) (loopOf a) (c .if2 .taken)) (refl, refl))
 
 returns-3 : tie.Need-returns-3
-returns-3 c = let s = c .before .before .before .before .before .before .before .before .before in let a =
-    s .args .area .now in
-    judged-right refusal (putIn (s .args .frame)) a _ _ _
-    (c .before .before .before .before .before .before .judge .ensures)
-    (c .before .before .before .before .before .if1 .left)
-    (rw (put-full (s .args .frame) (loopOf a) (c .before .before .before .before .if2 .left)
-    (sym (c .before .before .room-at .ensures) ∙ c .enum-told .given .1)) (refl, refl))
+returns-3 c =
+    let q = c .before .before in
+    let k = q .before .before in
+    let i = k .before in
+    let j = i .before in
+    let s = j .before .before .before in
+    let a = s .args .area .now in
+    judged-right refusal (putIn (s .args .frame)) a _ _ _ (j .judge .ensures) (i .if1 .left)
+    (rw (put-full (s .args .frame) (loopOf a) (k .if2 .left) (sym (q .room-at .ensures) ∙ c .enum-told .given .1))
+    (refl, refl))
 
 add-at-requires : tie.Need-add-at-requires
-add-at-requires c κs = (
-  record {
-    judged = sym (c .before .before .before .before .before .before .before .before .judge .ensures)
-        ∙ c .before .before .before .before .before .before .before .if1 .left;
-    there = omega arith;
-  },
-  sym (c .before .before .before .before .room-at .ensures) ∙ c .before .before .behind .given .1,
-  c .before .before .before .before .before .before .if2 .left,
-)
+add-at-requires c κs =
+    let b = c .before .before in
+    let q = b .before .before in
+    let k = q .before .before in
+    let i = k .before in
+    let j = i .before in (
+      record { judged = sym (j .judge .ensures) ∙ i .if1 .left; there = omega arith },
+      sym (q .room-at .ensures)
+          ∙ b .behind .given .1,
+      k .if2 .left,
+    )
 
 returns-4 : tie.Need-returns-4
-returns-4 c = let s =
-    c .before .before .before .before .before .before .before .before .before .before .before .before .before .before in let a = s .args .area .now in
-    judged-right refusal (putIn (s .args .frame)) a _ _ _
-    (c .before .before .before .before .before .before .before .before .before .before .before .judge .ensures)
-    (c .before .before .before .before .before .before .before .before .before .before .if1 .left)
-    (rw (put-done (s .args .frame) (loopOf a) _
-    (c .before .before .before .before .before .before .before .before .before .if2 .left)
-    (sym (c .before .before .before .before .before .before .before .room-at .ensures)
-    ∙ c .before .before .before .before .before .behind .given .1))
-    (refl, c .before .before .add-at .ensures .written))
+returns-4 c =
+    let w = c .before .before in
+    let b = w .before .before .before in
+    let q = b .before .before in
+    let k = q .before .before in
+    let i = k .before in
+    let j = i .before in
+    let s = j .before .before .before in
+    let a = s .args .area .now in
+    judged-right refusal (putIn (s .args .frame)) a _ _ _ (j .judge .ensures) (i .if1 .left)
+    (rw (put-done (s .args .frame) (loopOf a) _ (k .if2 .left) (sym (q .room-at .ensures) ∙ b .behind .given .1))
+    (refl, w .add-at .ensures .written))
 
 pub put-spec : {M : Type 1} → statement M
 put-spec =

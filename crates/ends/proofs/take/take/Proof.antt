@@ -10,45 +10,51 @@ use Rattle.ends.proofs.take.take.Statement.{statement}
 use Rattle.ends.proofs.take.take.Tie as tie
 
 returns : tie.Need-returns
-returns c = let s = c .before .before .before .before .before in judged-wrong noTake takeIn (s .args .area .now) _ _
-    (c .before .before .judge .ensures) (c .before .if1 .taken) (c .no-take .ensures)
+returns c =
+    let i = c .before in
+    let j = i .before in
+    let s = j .before .before .before in
+    judged-wrong noTake takeIn (s .args .area .now) _ _ (j .judge .ensures) (i .if1 .taken) (c .no-take .ensures)
 
 returns-2 : tie.Need-returns-2
-returns-2 c = let s =
-    c .before .before .before .before .before .before .before .before .before .before .before in let a =
-    s .args .area .now in
-    judged-right noTake takeIn a _ _ _
-    (c .before .before .before .before .before .before .before .before .judge .ensures)
-    (c .before .before .before .before .before .before .before .if1 .left)
-    (rw (take-empty (loopOf a) _ (c .before .before .before .before .before .devices-in .ensures .0)
-    (sym (c .before .before .before .oldest-at .ensures) ∙ c .before .enum-told .given .1))
+returns-2 c =
+    let e = c .before in
+    let o = e .before .before in
+    let n = o .before .before in
+    let i = n .before .before in
+    let j = i .before in
+    let s = j .before .before .before in
+    let a = s .args .area .now in
+    judged-right noTake takeIn a _ _ _ (j .judge .ensures) (i .if1 .left)
+    (rw (take-empty (loopOf a) _ (n .devices-in .ensures .0) (sym (o .oldest-at .ensures) ∙ e .enum-told .given .1))
     (c .no-take2 .ensures, refl))
 
 remove-at-requires : tie.Need-remove-at-requires
-remove-at-requires c κs = let s =
-    c .before .before .before .before .before .before .before .before .before .before .before .before in (
-      record {
-        judged = sym
-            (c .before .before .before .before .before .before .before .before .before .judge .ensures)
-            ∙ c .before .before .before .before .before .before .before .before .if1 .left;
-        there = omega
-            (arith, c .before .before .before .before .before .before .devices-in .ensures);
-      },
-      some-frame (link (loopOf (s .args .area .now))
-          (c .before .before .before .before .before .before .devices-in .result)) _
-          (sym (c .before .before .before .before .oldest-at .ensures) ∙ c .before .before .frame .given .1),
+remove-at-requires c κs =
+    let f = c .before .before in
+    let o = f .before .before in
+    let n = o .before .before in
+    let i = n .before .before in
+    let j = i .before in
+    let s = j .before .before .before in (
+      record { judged = sym (j .judge .ensures) ∙ i .if1 .left; there = omega (arith, n .devices-in .ensures) },
+      some-frame (link (loopOf (s .args .area .now)) (n .devices-in .result)) _
+          (sym (o .oldest-at .ensures) ∙ f .frame .given .1),
     )
 
 returns-3 : tie.Need-returns-3
-returns-3 c = let s =
-    c .before .before .before .before .before .before .before .before .before .before .before .before .before .before .before in let a = s .args .area .now in
-    judged-right noTake takeIn a _ _ _
-    (c .before .before .before .before .before .before .before .before .before .before .before .before .judge .ensures) (c .before .before .before .before .before .before .before .before .before .before .before .if1 .left)
-    (rw (take-done (loopOf a) _
-    (c .before .before .before .before .before .before .before .before .before .devices-in .ensures .0) _
-    (sym (c .before .before .before .before .before .before .before .oldest-at .ensures)
-    ∙ c .before .before .before .before .before .frame .given .1))
-    (refl, c .before .before .remove-at .ensures .written))
+returns-3 c =
+    let x = c .before .before in
+    let f = x .before .before .before in
+    let o = f .before .before in
+    let n = o .before .before in
+    let i = n .before .before in
+    let j = i .before in
+    let s = j .before .before .before in
+    let a = s .args .area .now in
+    judged-right noTake takeIn a _ _ _ (j .judge .ensures) (i .if1 .left)
+    (rw (take-done (loopOf a) _ (n .devices-in .ensures .0) _ (sym (o .oldest-at .ensures) ∙ f .frame .given .1))
+    (refl, x .remove-at .ensures .written))
 
 pub take-spec : {M : Type 1} → statement M
 take-spec =
