@@ -1,11 +1,15 @@
--- The laws of the lister, as statements: its contracts leave one answer, one area and one buffer, and its chunks, one
--- after the other, are the listing. Their proofs are in proofs/Laws.antt.
+-- The laws of the lister, as statements: its contracts leave one answer, one area and one buffer, its chunks, one after
+-- the other, are the listing, and no frame's call is refused. Their proofs are in proofs/Laws.antt.
 use Prim.Native.Nat.{ℕ, zero, suc, _≤_}
 use mathlib.Core.Path.{_≡_}
-use mathlib.Core.List.{List, [], _++_}
+use mathlib.Core.List.{List, [], _∷_, _++_}
+use mathlib.Core.Bool.{true}
 use lib.ListN.{length}
-use Rattle.lister.specs.Listing.{listing}
-use Rattle.round.specs.Round.{textRoom}
+use Rattle.text.specs.Digits.{numberAt}
+use Rattle.script.specs.Script.{loopRight, frameRight}
+use Rattle.round.specs.Round.{textRoom, roundArea}
+use Rattle.round.specs.Laws.{Accepted}
+use Rattle.lister.specs.Listing.{setUp, listing}
 use Rattle.lister.specs.Chunks.{areaRoom, Does, startDoes, stepDoes, Did}
 use Rattle.lister.specs.declared.Chunk.{Chunk}
 use Rattle.lister.specs.declared.Next.{Next}
@@ -44,3 +48,16 @@ ChunksList =
     ≡ listing input)
     × (nextFrom (length input) input (startDoes input area room .next) (startDoes input area room .area) room
     ≡ Next.End)
+
+-- each frame line up to the first wrong one, over the area that those before it left, goes round without a refusal
+abbrev pub AllAccepted : List ℕ → List (List ℕ) → Type 0
+AllAccepted area [] = Unit {0}
+AllAccepted area (line ∷ lines) =
+    frameRight line ≡ true →
+    Accepted (numberAt 0 3 line) area × AllAccepted (roundArea (numberAt 0 3 line) area) lines
+
+-- No call of a script's frames is refused: what is printed of a frame is what the devices made of it
+abbrev pub NoneRefused : Type 0
+NoneRefused =
+    (line : List ℕ) (lines : List (List ℕ)) → loopRight line ≡ true → setUp line .answer ≡ 0 →
+    AllAccepted (setUp line .area) lines
