@@ -2,6 +2,7 @@
    ratio libpil to model. Use: bench [lister model-lister text], where both listers are commands that read the text. */
 #define _POSIX_C_SOURCE 200809L
 #include "both.h"
+#include "loops.h"
 
 #include <stdio.h>
 #include <stdlib.h>
@@ -10,14 +11,15 @@
 
 enum {
     PIL, MODEL,
-    N = PIL_MOST_DEVICES,
+    N = LOOP_DEVICES,
+    NUL = 0x400,
     AREAS = 64,       /* areas that a run works through */
     RUNS = 41,        /* runs of each side; odd, so that one is the median */
     LISTER_RUNS = 11
 };
 
-static uint8_t areas[AREAS][PIL_AREA_LENGTH(N)], ready[PIL_AREA_LENGTH(N)];
-static const size_t area_len = PIL_AREA_LENGTH(N);
+static uint8_t areas[AREAS][LOOP_LENGTH], ready[LOOP_LENGTH];
+static const size_t area_len = LOOP_LENGTH;
 
 static double now(void)
 {
@@ -27,23 +29,23 @@ static double now(void)
     return (double)t.tv_sec * 1e9 + (double)t.tv_nsec;
 }
 
-/* A loop of 15 devices with all abilities; the given number of NULs in each link but the tail. */
-static void make_ready(unsigned frames)
+/* Idle loops with NULs in each link but the tail. */
+
+static void idle_loop_with(uint8_t *area, unsigned nuls)
 {
-    uint8_t items[PIL_ITEMS_LENGTH(N)] = {0};
+    idle_loop(area);
+    for (unsigned link = 0; link < N; link++)
+        fill_link(area, link, nuls, NUL, 0);
+}
 
-    for (unsigned i = 0; i < N; i++) {
-        items[PIL_ITEMS_LENGTH(i) + PIL_ITEM_ABILITIES] = 0xff;
-        items[PIL_ITEMS_LENGTH(i) + PIL_ITEM_FIXED] = PIL_NO_ADDRESS;
-    }
-    model_set_up(ready, area_len, items, sizeof items);
-    for (unsigned i = 0; i < N; i++) {
-        uint8_t *link = ready + PIL_LINK_AT(N, i);
+static void nul_in_each_link(uint8_t *area)
+{
+    idle_loop_with(area, 1);
+}
 
-        link[PIL_LINK_COUNT] = (uint8_t)frames;
-        for (unsigned k = 0; k < frames; k++)
-            link[PIL_LINK_FRAMES + 2 * k + 1] = 0x04;
-    }
+static void links_full_of_nuls(uint8_t *area)
+{
+    idle_loop_with(area, PIL_LINK_DEPTH);
 }
 
 /* The work: each does one area and gives a number that depends on the answers. */
@@ -71,19 +73,22 @@ static unsigned long round_trip(const struct calls *of, uint8_t *area)
 
 static unsigned long soundness(const struct calls *of, uint8_t *area)
 {
-    return of->hop(area, area_len, N).refusal;
+    return of->hop(area, area_len, N).refusal == PIL_NO_DEVICE;
 }
 
 static const struct work {
     const char *name;
-    unsigned frames; /* in each link but the tail, before */
-    unsigned units;  /* what the work on one area counts as */
+    void (*make_ready)(uint8_t *);
+    unsigned units; /* what the work on one area counts as */
     unsigned long (*on)(const struct calls *, uint8_t *);
 } works[] = {
-    {"hop of one of 15 devices, a frame in each link", 1, N, hops},
-    {"drain of a full loop: 60 hops of 15 devices", PIL_LINK_DEPTH, 1, drain},
-    {"round trip: put, drain of 15 hops, take", 0, 1, round_trip},
-    {"soundness of 15 devices: a hop refused with 3", PIL_LINK_DEPTH, 1, soundness},
+    {"hop of one of 15 devices, a frame in each link", nul_in_each_link, N, hops},
+    {"drain of a full loop: 60 hops of 15 devices", links_full_of_nuls, 1, drain},
+    {"round trip: put, drain of 15 hops, take", idle_loop, 1, round_trip},
+    {"soundness of 15 devices: a hop refused with 3", links_full_of_nuls, 1, soundness},
+    {"busy loop: hop of one of 15 devices", busy_loop_to_hop, N, hops},
+    {"busy loop: drain of 60 hops, data bytes", busy_loop_to_drain, 1, drain},
+    {"busy loop: soundness, a hop refused with 3", busy_loop, 1, soundness},
 };
 
 /* One run of one side: nanoseconds a unit. The areas are made anew first, outside the time taken. */
@@ -123,15 +128,15 @@ static int measure(const struct work *w)
     static double times[2][RUNS];
     unsigned long sums[2];
 
-    make_ready(w->frames);
+    w->make_ready(ready);
     for (unsigned i = 0; i < RUNS; i++)
         for (unsigned turn = 0; turn < 2; turn++) {
             int side = (i + turn) % 2 ? MODEL : PIL;
 
             times[side][i] = run(w, side, &sums[side]);
         }
-    if (sums[PIL] != sums[MODEL]) {
-        printf("%s: the answers differ\n", w->name);
+    if (sums[PIL] != sums[MODEL] || sums[PIL] == 0) {
+        printf("%s: the answers differ or are refusals\n", w->name);
         return 0;
     }
     print_ratio(w->name, median(times[PIL], RUNS), median(times[MODEL], RUNS), "ns");

@@ -1,51 +1,110 @@
-/* One call of libpil or of the model on a loop of 15 devices, or none, for counting the instructions that it takes.
-   Use: count CASE WHO, the case below, who 0 for neither, 1 for libpil, 2 for the model. */
-#include "model.h"
-#include "pil.h"
+/* One piece of work of libpil or of the model on a loop of 15 devices, or none, for counting the instructions that it
+   takes. Use: count names, or count CASE WHO: the case's line among the names; 0 for neither, 1 libpil, 2 the model. */
+#include "both.h"
+#include "loops.h"
 
+#include <stdio.h>
 #include <stdlib.h>
+#include <string.h>
 
-static uint8_t area[PIL_AREA_LENGTH(PIL_MOST_DEVICES)];
+enum { SDA = 0x560, ETO = 0x540, MOST_ROUNDS = 100 };
 
-/* Devices with every ability, and frames in link 0: the first of them is frame. */
-static void set_up(unsigned frames, unsigned frame)
+static uint8_t area[LOOP_LENGTH];
+
+/* Idle loops with frames in link 0. */
+
+static void data_byte(uint8_t *loop)
 {
-    uint8_t items[PIL_ITEMS_LENGTH(PIL_MOST_DEVICES)] = {0};
+    idle_loop(loop);
+    fill_link(loop, 0, 1, 0x041, 1);
+}
 
-    for (unsigned i = 0; i < PIL_MOST_DEVICES; i++) {
-        items[PIL_ITEMS_LENGTH(i) + PIL_ITEM_ABILITIES] = 0xff;
-        items[PIL_ITEMS_LENGTH(i) + PIL_ITEM_FIXED] = PIL_NO_ADDRESS;
+static void data_bytes(uint8_t *loop)
+{
+    idle_loop(loop);
+    fill_link(loop, 0, PIL_LINK_DEPTH, 0x041, 1);
+}
+
+static void talk_addresses(uint8_t *loop)
+{
+    idle_loop(loop);
+    fill_link(loop, 0, PIL_LINK_DEPTH, 0x440, 1);
+}
+
+/* The work: each gives a number of its answers. */
+
+static unsigned refused_hop(const struct calls *of)
+{
+    return of->hop(area, sizeof area, LOOP_DEVICES).refusal;
+}
+
+static unsigned first_hop(const struct calls *of)
+{
+    return of->hop(area, sizeof area, 0).frame;
+}
+
+static unsigned last_hop(const struct calls *of)
+{
+    return of->hop(area, sizeof area, LOOP_DEVICES - 1).frame;
+}
+
+static unsigned drain(const struct calls *of)
+{
+    return of->drain(area, sizeof area, UINT64_MAX).hops;
+}
+
+/* SDA and then each byte that comes out sent right round, till the talker ends: the rounds made. */
+static unsigned whole_record(const struct calls *of)
+{
+    unsigned frame = SDA, rounds = 0;
+
+    while (frame != ETO && rounds < MOST_ROUNDS) {
+        of->put(area, sizeof area, frame);
+        of->drain(area, sizeof area, UINT64_MAX);
+        frame = of->take(area, sizeof area).frame;
+        rounds++;
     }
-    model_set_up(area, sizeof area, items, sizeof items);
-    for (unsigned i = 0; i < frames; i++)
-        model_put(area, sizeof area, frame + i);
+    return rounds;
 }
 
-static void hop(int who, uint64_t device)
-{
-    if (who == 1)
-        pil_hop(area, sizeof area, device);
-    else if (who == 2)
-        model_hop(area, sizeof area, device);
-}
+static const struct {
+    const char *name;
+    void (*ready)(uint8_t *);
+    unsigned (*work)(const struct calls *);
+    unsigned answer; /* what the work must give */
+} cases[] = {
+    {"soundness of 15 devices", idle_loop, refused_hop, PIL_NO_DEVICE},
+    {"hop of a data byte", data_byte, first_hop, 0x041},
+    {"drain of 60 hops, data bytes", data_bytes, drain, 60},
+    {"drain of 60 hops, talk addresses", talk_addresses, drain, 60},
+    {"busy loop: soundness of 15 devices", busy_loop, refused_hop, PIL_NO_DEVICE},
+    {"busy loop: hop of a talker's own byte", busy_loop_to_hop, last_hop,
+     LOOP_FIRST_BYTE + PIL_MOST_ID + PIL_MOST_DATA / 2},
+    {"busy loop: drain of 60 hops, data bytes", busy_loop_to_drain, drain, 60},
+    {"a talker's 32 bytes sent round, 33 rounds", talker_loop, whole_record, 33},
+};
 
-static void drain(int who)
+enum { CASES = sizeof cases / sizeof *cases };
+
+static int print_names(void)
 {
-    if (who == 1)
-        pil_drain(area, sizeof area, 1000);
-    else if (who == 2)
-        model_drain(area, sizeof area, 1000);
+    for (unsigned i = 0; i < CASES; i++)
+        printf("%s\n", cases[i].name);
+    return 0;
 }
 
 int main(int argc, char **argv)
 {
-    int chosen = argc > 1 ? atoi(argv[1]) : 0, who = argc > 2 ? atoi(argv[2]) : 0;
+    unsigned chosen, who;
 
-    switch (chosen) {
-    case 1: set_up(0, 0); hop(who, 99); break;           /* soundness of 15 devices: a hop refused with 3 */
-    case 2: set_up(1, 0x041); hop(who, 0); break;        /* a hop of a data byte */
-    case 3: set_up(4, 0x041); drain(who); break;         /* a drain of 60 hops of data bytes */
-    case 4: set_up(4, 0x440); drain(who); break;         /* a drain of 60 hops of talk addresses */
-    default: return 1;
-    }
+    if (argc == 2 && strcmp(argv[1], "names") == 0)
+        return print_names();
+    if (argc != 3)
+        return 3;
+    chosen = (unsigned)atoi(argv[1]) - 1;
+    who = (unsigned)atoi(argv[2]);
+    if (chosen >= CASES || who > 2)
+        return 3;
+    cases[chosen].ready(area);
+    return who == 0 ? 0 : cases[chosen].work(&both[who - 1]) != cases[chosen].answer;
 }

@@ -26,12 +26,12 @@ static void set16(uint8_t *at, unsigned value)
     at[1] = (uint8_t)(value >> 8);
 }
 
+/* No stretch asked about is longer than the data. */
 static int all_zero(const uint8_t *bytes, size_t from, size_t end)
 {
-    for (size_t i = from; i < end; i++)
-        if (bytes[i] != 0)
-            return 0;
-    return 1;
+    static const uint8_t zeros[PIL_MOST_DATA];
+
+    return memcmp(bytes + from, zeros, end - from) == 0;
 }
 
 /* Frames and their kinds. */
@@ -54,14 +54,69 @@ static const struct { uint16_t first, last; } messages[PIL_KINDS] = {
     [PIL_KIND_AMP] = {0x5e0, 0x5fe}, [PIL_KIND_IMP] = {0x5ff, 0x5ff}, [PIL_KIND_IDY] = {0x600, 0x7ff},
 };
 
-/* The first kind whose last code is not below the frame is the only one it can be of. */
+/* The kinds of one code that stand alone: among commands 400-41f and 490-49f, among ready frames 500-57f. */
+static unsigned kind_of_single(unsigned frame)
+{
+    switch (frame) {
+    case 0x400: return PIL_KIND_NUL;
+    case 0x401: return PIL_KIND_GTL;
+    case 0x404: return PIL_KIND_SDC;
+    case 0x405: return PIL_KIND_PPD;
+    case 0x408: return PIL_KIND_GET;
+    case 0x411: return PIL_KIND_LLO;
+    case 0x414: return PIL_KIND_DCL;
+    case 0x415: return PIL_KIND_PPU;
+    case 0x418: return PIL_KIND_EAR;
+    case 0x490: return PIL_KIND_IFC;
+    case 0x492: return PIL_KIND_REN;
+    case 0x493: return PIL_KIND_NRE;
+    case 0x49a: return PIL_KIND_AAU;
+    case 0x49b: return PIL_KIND_LPD;
+    case 0x500: return PIL_KIND_RFC;
+    case 0x540: return PIL_KIND_ETO;
+    case 0x541: return PIL_KIND_ETE;
+    case 0x542: return PIL_KIND_NRD;
+    case 0x560: return PIL_KIND_SDA;
+    case 0x561: return PIL_KIND_SST;
+    case 0x562: return PIL_KIND_SDI;
+    case 0x563: return PIL_KIND_SAI;
+    case 0x564: return PIL_KIND_TCT;
+    default: return PIL_KIND_NONE;
+    }
+}
+
+/* The other commands and ready frames come in groups of 32 codes, and the last of a group is often another kind. */
+static unsigned kind_of_command_or_ready(unsigned frame)
+{
+    int last = frame % 32 == 31;
+
+    switch (frame & ~31u) {
+    case 0x420: return last ? PIL_KIND_UNL : PIL_KIND_LAD;
+    case 0x440: return last ? PIL_KIND_UNT : PIL_KIND_TAD;
+    case 0x460: return last ? PIL_KIND_NONE : PIL_KIND_SAD;
+    case 0x480: return frame <= 0x48f ? PIL_KIND_PPE : kind_of_single(frame);
+    case 0x4a0: return PIL_KIND_DDL;
+    case 0x4c0: return PIL_KIND_DDT;
+    case 0x580: return last ? PIL_KIND_IAA : PIL_KIND_AAD;
+    case 0x5a0: return last ? PIL_KIND_IEP : PIL_KIND_AEP;
+    case 0x5c0: return last ? PIL_KIND_IES : PIL_KIND_AES;
+    case 0x5e0: return last ? PIL_KIND_IMP : PIL_KIND_AMP;
+    default: return kind_of_single(frame);
+    }
+}
+
+/* By the control bits: 00x data byte, 01x end byte, 100 command, 101 ready frame, 11x identify. */
 static unsigned kind_of(unsigned frame)
 {
-    unsigned kind = PIL_KIND_DAB;
-
-    while (frame > messages[kind].last)
-        kind++;
-    return frame >= messages[kind].first ? kind : PIL_KIND_NONE;
+    switch (frame >> 8) {
+    case 0:
+    case 1: return PIL_KIND_DAB;
+    case 2:
+    case 3: return PIL_KIND_END;
+    case 4:
+    case 5: return kind_of_command_or_ready(frame);
+    default: return PIL_KIND_IDY;
+    }
 }
 
 struct pil_decoded model_decode(uint64_t frame)
@@ -112,9 +167,7 @@ static int ranges_hold(const uint8_t *r)
         && r[PIL_RECORD_ID_LENGTH] <= PIL_MOST_ID
         && r[PIL_RECORD_DATA_LENGTH] <= PIL_MOST_DATA
         && r[PIL_RECORD_SENT] <= r[PIL_RECORD_DATA_LENGTH]
-        && all_zero(r, PIL_RECORD_ZEROS, PIL_RECORD_ID)
-        && all_zero(r + PIL_RECORD_ID, r[PIL_RECORD_ID_LENGTH], PIL_MOST_ID)
-        && all_zero(r + PIL_RECORD_DATA, r[PIL_RECORD_DATA_LENGTH], PIL_MOST_DATA);
+        && all_zero(r, PIL_RECORD_ZEROS, PIL_RECORD_ID);
 }
 
 static int address_sound(const uint8_t *r)
@@ -170,23 +223,28 @@ static int reply_sound(const uint8_t *r)
     }
 }
 
+static int zero_past_lengths(const uint8_t *r)
+{
+    return all_zero(r + PIL_RECORD_ID, r[PIL_RECORD_ID_LENGTH], PIL_MOST_ID)
+        && all_zero(r + PIL_RECORD_DATA, r[PIL_RECORD_DATA_LENGTH], PIL_MOST_DATA);
+}
+
 static int record_sound(const uint8_t *r)
 {
     return ranges_hold(r) && abilities_allowed(r[PIL_RECORD_ABILITIES]) && address_sound(r)
-        && states_have_abilities(r) && reply_sound(r);
+        && states_have_abilities(r) && reply_sound(r) && zero_past_lengths(r);
 }
 
 static int link_sound(const uint8_t *link)
 {
+    const uint8_t *frames = link + PIL_LINK_FRAMES;
+
     if (link[PIL_LINK_COUNT] > PIL_LINK_DEPTH || link[PIL_LINK_ZERO] != 0)
         return 0;
-    for (unsigned i = 0; i < PIL_LINK_DEPTH; i++) {
-        unsigned frame = get16(link + PIL_LINK_FRAMES + 2 * i);
-
-        if (frame >= PIL_FRAMES || (i >= link[PIL_LINK_COUNT] && frame != 0))
+    for (unsigned i = 0; i < link[PIL_LINK_COUNT]; i++)
+        if (get16(frames + 2 * i) >= PIL_FRAMES)
             return 0;
-    }
-    return 1;
+    return all_zero(frames, 2 * link[PIL_LINK_COUNT], 2 * PIL_LINK_DEPTH);
 }
 
 static int area_sound(const uint8_t *area)
@@ -204,21 +262,18 @@ static int area_sound(const uint8_t *area)
     return 1;
 }
 
-/* The number of devices whose area has this length, 0 if there is none. */
-static unsigned devices_of_length(size_t area_len)
+/* The length is that of the loop that byte 0 names; an area shorter than one device's may have no byte 0. */
+static int shape_right(const uint8_t *area, size_t area_len)
 {
-    for (unsigned n = 1; n <= PIL_MOST_DEVICES; n++)
-        if (area_len == PIL_AREA_LENGTH(n))
-            return n;
-    return 0;
+    unsigned n = area_len < PIL_AREA_LENGTH(1) ? 0 : area[PIL_HEADER_DEVICES];
+
+    return n >= 1 && n <= PIL_MOST_DEVICES && area_len == PIL_AREA_LENGTH(n);
 }
 
 /* Refusals 1 and 2, which every call but set-up gives in the same way. */
 static uint8_t shape_and_soundness(const uint8_t *area, size_t area_len)
 {
-    unsigned n = devices_of_length(area_len);
-
-    if (n == 0 || n != area[PIL_HEADER_DEVICES])
+    if (!shape_right(area, area_len))
         return PIL_SHAPE;
     return area_sound(area) ? PIL_ACCEPTED : PIL_UNSOUND;
 }
@@ -246,15 +301,16 @@ static void link_add(uint8_t *link, unsigned frame)
     link[PIL_LINK_COUNT]++;
 }
 
+/* All places behind the oldest move up, unused ones too. */
 static unsigned link_take_oldest(uint8_t *link)
 {
     unsigned left = --link[PIL_LINK_COUNT];
-    uint8_t *frames = link + PIL_LINK_FRAMES;
-    unsigned place = MODEL_FAULT == 3 ? left : 0;
-    unsigned frame = get16(frames + 2 * place);
+    unsigned place = MODEL_FAULT == 3 ? left : 0, behind = PIL_LINK_DEPTH - 1 - place;
+    uint8_t *taken = link + PIL_LINK_FRAMES + 2 * place;
+    unsigned frame = get16(taken);
 
-    memmove(frames + 2 * place, frames + 2 * (place + 1), 2 * (left - place));
-    set16(frames + 2 * left, 0);
+    memmove(taken, taken + 2, 2 * behind);
+    set16(taken + 2 * behind, 0);
     return frame;
 }
 
@@ -452,11 +508,9 @@ static unsigned command_ready_or_identify(uint8_t *r, unsigned kind, unsigned fr
 
 static struct pil_hopped device_takes(uint8_t *r, unsigned frame)
 {
-    unsigned kind = kind_of(frame);
-
-    if (kind == PIL_KIND_DAB || kind == PIL_KIND_END)
+    if (frame <= messages[PIL_KIND_END].last)
         return data_or_end(r, frame);
-    return (struct pil_hopped){.frame = (uint16_t)command_ready_or_identify(r, kind, frame)};
+    return (struct pil_hopped){.frame = (uint16_t)command_ready_or_identify(r, kind_of(frame), frame)};
 }
 
 /* The calls: 01, the part of that name. Conditions are asked in the order of the refusals' numbers. */
@@ -470,6 +524,16 @@ static void power_on(uint8_t *r, const uint8_t *item)
     r[PIL_RECORD_ACCESSORY] = item[PIL_ITEM_ACCESSORY];
     r[PIL_RECORD_ID_LENGTH] = item[PIL_ITEM_ID_LENGTH];
     memcpy(r + PIL_RECORD_ID, item + PIL_ITEM_ID, PIL_MOST_ID);
+}
+
+/* The number of devices whose area has this length, 0 if there is none. */
+static unsigned devices_of_length(size_t area_len)
+{
+    size_t none = PIL_AREA_LENGTH(0), each = PIL_AREA_LENGTH(1) - none;
+
+    if (area_len <= none || area_len > PIL_AREA_LENGTH(PIL_MOST_DEVICES) || (area_len - none) % each != 0)
+        return 0;
+    return (unsigned)((area_len - none) / each);
 }
 
 uint8_t model_set_up(uint8_t *area, size_t area_len, const uint8_t *items, size_t items_len)
@@ -603,10 +667,11 @@ uint8_t model_wish(uint8_t *area, size_t area_len, uint64_t device, uint64_t wis
 /* The highest-numbered device that can hop, -1 if none can. */
 static int highest_that_can_hop(uint8_t *area)
 {
-    for (int device = area[PIL_HEADER_DEVICES] - 1; device >= 0; device--)
-        if (hop_refusal(area, (uint64_t)device) == PIL_ACCEPTED)
-            return device;
-    return -1;
+    int device = area[PIL_HEADER_DEVICES] - 1;
+
+    while (device >= 0 && (link_empty(link_of(area, (size_t)device)) || link_full(link_of(area, (size_t)device + 1))))
+        device--;
+    return device;
 }
 
 struct pil_drained model_drain(uint8_t *area, size_t area_len, uint64_t budget)

@@ -1,9 +1,9 @@
 #!/bin/sh
-# Sees to the compiler and, on a machine that is not x86-64, the emulator that the host programs need: installs the
-# missing packages when run as root, and otherwise says which they are.
+# Sees to the compiler and the emulator that the host programs need: installs the missing packages when run as root,
+# and otherwise says which they are. Use: tools.sh [emulator], the word where x86-64 machines need the emulator too.
 if [ "$(uname -m)" = x86_64 ]; then
-    commands="gcc"
-    packages="gcc libc6-dev"
+    commands="gcc ${1:+qemu-x86_64}"
+    packages="gcc libc6-dev ${1:+qemu-user}"
     libc=/usr/lib/x86_64-linux-gnu/libc.a
 else
     commands="x86_64-linux-gnu-gcc qemu-x86_64"

@@ -54,6 +54,13 @@ link-put l j fs h =
     (length-join recordOf recordSize record-wide (l .devices))
     ∙ ap (λ (r : List ℕ). rs ++ r) (simp append-nil at (splice-join linkOf linkSize link-wide (l .links) [] j fs h))))
 
+pub device-get : (l : Loop) (i : ℕ) → i < size l → part (recordAt i) recordSize (areaOf l) ≡ recordOf (device l i)
+unfolding areaOf
+device-get l i h =
+    part-past (headerOf (size l)) (join (map recordOf (l .devices)) ++ join (map linkOf (l .links))) headerSize
+    (recordSize * i) recordSize refl
+    ∙ part-join recordOf recordSize record-wide (l .devices) (join (map linkOf (l .links))) i (deviceOf []) h
+
 pub link-get : (l : Loop) (j : ℕ) → j < length (l .links) →
     part (linkAt (size l) j) linkSize (areaOf l) ≡ linkOf (link l j)
 unfolding areaOf

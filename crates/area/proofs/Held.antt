@@ -8,15 +8,17 @@ use lib.ListN.{length}
 use Rattle.frame.specs.Messages.{frames}
 use Rattle.device.specs.declared.Device.{Device}
 use Rattle.record.specs.Record.{recordSize, deviceOf, recordOf}
+use Rattle.record.specs.Written.{IsRecord}
 use Rattle.record.specs.Fits.{Bytes, Good}
+use Rattle.record.proofs.Laws.{record-wide, record-again}
 use Rattle.area.specs.Sizes.{linkSize, depth, recordAt, linkAt, Starts}
 use Rattle.area.specs.Link.{framesOf, linkOf, IsLink, Frames}
 use Rattle.area.specs.Loop.{loopOf, size, device, link, Holds, HasDevice, HasLink}
 use Rattle.area.specs.Lookup.{setDevice, setLink, add, remove}
 use Rattle.area.proofs.Parts.{lent, given-back, lent-is, given-back-is}
 use Rattle.area.proofs.Links.{frames-again, link-sound, link-wide, frames-less, frames-more}
-use Rattle.area.proofs.Areas.{area-is, loop-good, device-read, device-put, link-put, link-get, holds-of}
-use Rattle.area.proofs.Areas.{device-kept, link-kept}
+use Rattle.area.proofs.Areas.{area-is, loop-good, device-read, device-get, device-put, link-put, link-get}
+use Rattle.area.proofs.Areas.{holds-of, device-kept, link-kept}
 
 -- link j
 module _ (a : List ℕ) (small : Bytes a) (j from : ℕ) (h : HasLink a j)
@@ -64,6 +66,15 @@ module _ (a : List ℕ) (small : Bytes a) (i from : ℕ) (h : HasDevice a i)
   pub device-lent : deviceOf (lent from recordSize a) ≡ device (loopOf a) i
   device-lent = ap deviceOf (lent-is from _ recordSize a (s .at-place))
       ∙ sym (device-read a small (h .judged) i (h .there))
+
+  -- the bytes lent are its record
+  pub record-lent : IsRecord (lent from recordSize a)
+  record-lent =
+      let d = device (loopOf a) i in
+      let e : lent from recordSize a ≡ recordOf d = lent-is from _ recordSize a (s .at-place)
+      ∙ rw (area-is a small (h .judged)) at (device-get (loopOf a) i (h .there)) in
+      let good = loop-good a small (h .judged) .devices i in
+      rw e (record { long = record-wide d; whole = ap recordOf (record-again d (good .fits)) })
 
   pub device-held : (d : Device) (b : List ℕ) → Good d → b ≡ recordOf d →
       Holds (given-back from recordSize b a) (setDevice i d (loopOf a))

@@ -8,7 +8,7 @@ use crate::lookup::record_start;
 use device::Device;
 ghost use mathlib.Core.Path.{_≡_};
 ghost use Prim.Native.Nat.{_≤_, _<_};
-ghost use lib.ListN.{length, replicate};
+ghost use lib.ListN.{length};
 ghost use Rattle.frame.specs.Messages.{frames};
 ghost use Rattle.record.specs.Fits.{Good};
 ghost use Rattle.area.specs.Sizes.{mostDevices, areaSize};
@@ -40,17 +40,7 @@ pub fn set_device(area: &mut [u8], i: usize, d: Device)
     ensures { λ _. ⌜ Holds (now (area .exit)) (setDevice i d (loopOf (now (area .entry)))) ⌝ }
 {
     let at = record_start(area, i);
-    record::write(&mut area[at..at + record::SIZE], d);
-}
-
-fn clear(s: &mut [u8])
-    ensures { λ _. ⌜ now (s .exit) ≡ replicate (length (now (s .entry))) 0 ⌝ }
-{
-    let mut i = 0;
-    while i < s.len() {
-        s[i] = 0;
-        i += 1;
-    }
+    record::write::write(&mut area[at..at + record::SIZE], d);
 }
 
 // An area of n devices that are all zero, with empty links.
@@ -58,6 +48,6 @@ pub fn blank(area: &mut [u8], n: usize)
     requires { ⌜ (1 ≤ n) × (n ≤ mostDevices) × (length (now area) ≡ areaSize n) ⌝ }
     ensures { λ _. ⌜ Holds (now (area .exit)) (blankOf n) ⌝ }
 {
-    clear(area);
+    record::write::clear(area);
     area[0] = n as u8;
 }

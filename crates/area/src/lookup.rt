@@ -6,12 +6,11 @@ use crate::Place;
 use crate::Room;
 use crate::link::oldest_in;
 use crate::link::room_in;
-use device::Device;
 ghost use mathlib.Core.Path.{_≡_};
 ghost use Prim.Native.Nat.{_≤_};
 ghost use Rattle.record.specs.Record.{recordSize};
 ghost use Rattle.area.specs.Sizes.{linkSize, mostDevices, recordAt, linkAt, Starts};
-ghost use Rattle.area.specs.Loop.{judgeOf, loopOf, size, device, link, HasDevice, HasLink};
+ghost use Rattle.area.specs.Loop.{judgeOf, loopOf, size, link, HasDevice, HasLink};
 ghost use Rattle.area.specs.Lookup.{oldestOf, roomOf, placeOf};
 
 pub fn devices_in(area: &[u8]) -> usize
@@ -63,12 +62,4 @@ pub fn room_at(area: &[u8], j: usize) -> Room
 {
     let at = link_start(area, j);
     room_in(&area[at..at + LINK_SIZE])
-}
-
-pub fn device_at(area: &[u8], i: usize) -> Device
-    requires { ⌜ HasDevice (now area) i ⌝ }
-    ensures { λ r. ⌜ r ≡ device (loopOf (now (area .entry))) i ⌝ }
-{
-    let at = record_start(area, i);
-    record::read(&area[at..at + record::SIZE])
 }

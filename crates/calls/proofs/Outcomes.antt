@@ -11,7 +11,7 @@ use borrow.Author.Tests.{lt-ltb, le-ltb, ltb-true, ltb-false, eq-eqb, ne-eqb}
 use Rattle.frame.specs.Messages.{frames}
 use Rattle.frame.specs.Coding.{badFrame}
 use Rattle.device.specs.declared.Device.{Device}
-use Rattle.local.specs.declared.Called.{Called}
+use Rattle.local.specs.Local.{Called}
 use Rattle.area.specs.Sizes.{depth}
 use Rattle.area.specs.Loop.{Loop, size, loopOf, judgeOf, device, link}
 use Rattle.area.specs.Lookup.{oldestOf, roomOf, placeOf, setLink, add, remove}

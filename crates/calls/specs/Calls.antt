@@ -12,8 +12,8 @@ use Rattle.local.specs.Local.{loads, setsStatus, wishes}
 use Rattle.device.specs.declared.Device.{Device}
 use Rattle.device.specs.declared.Handed.{Handed}
 use Rattle.device.specs.declared.Handed.the-variants as handed
-use Rattle.device.specs.declared.Sent.{Sent}
-use Rattle.local.specs.declared.Called.{Called}
+use Rattle.device.specs.Sent.{Sent}
+use Rattle.local.specs.Local.{Called}
 use Rattle.area.specs.Sizes.{depth}
 use Rattle.area.specs.Loop.{Loop, size, device, link}
 use Rattle.area.specs.Lookup.{oldestOf, setDevice, add, remove}

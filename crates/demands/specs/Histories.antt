@@ -11,7 +11,7 @@ use Rattle.local.specs.Local.{loads, setsStatus, wishes}
 use Rattle.device.specs.declared.Device.{Device}
 use Rattle.device.specs.declared.Handed.{Handed}
 use Rattle.device.specs.declared.Handed.the-variants as handed
-use Rattle.local.specs.declared.Called.{Called}
+use Rattle.local.specs.Local.{Called}
 use Rattle.area.specs.Sizes.{depth}
 use Rattle.area.specs.Loop.{countIn, loopOf}
 use Rattle.order.specs.Line as line

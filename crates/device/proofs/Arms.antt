@@ -10,7 +10,7 @@ use Rattle.device.specs.Choose.{choose}
 use Rattle.device.specs.Change.{talking}
 use Rattle.device.specs.Reply.{sends, marked, continues}
 use Rattle.device.specs.declared.Device.{Device}
-use Rattle.device.specs.declared.Sent.{Sent}
+use Rattle.device.specs.Sent.{Sent}
 
 yes : {A : Type 0} {b : Bool} {x a : A} (z : A) → b ≡ true → x ≡ a → x ≡ choose b a z
 unfolding choose

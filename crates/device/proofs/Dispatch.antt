@@ -1,17 +1,17 @@
 -- The rule of a frame's kind, where one is listed and where none is; and the number of an addressed message by its low
 -- five bits.
-use Prim.Native.Nat.{ℕ, zero, suc, _≤_, _<_, _%_}
+use Prim.Native.Nat.{ℕ, zero, suc, _+_, _≤_, _<_, _%_}
 use mathlib.Core.Path.{_≡_, refl, sym, ap, _∙_}
 use mathlib.Core.Logic.{⊎-elim}
 use mathlib.Core.List.{List, [], _∷_}
-use mathlib.Core.Bool.{Bool, true, false, cond, _&&_}
+use mathlib.Core.Bool.{Bool, true, false, cond, _&&_, _||_}
 use native.Mathlib.Omega.{arith}
 use lib.Dec.{T, eqb, ltb, leb}
 use borrow.Author.Tests.{eqb-true, eqb-false, ne-eqb, ltb-true, leb-true}
 use denote.Enum.Declared.{tagOf}
 use types.Run.{OneOf}
 use Rattle.frame.specs.declared.Kind.{Kind}
-use Rattle.frame.specs.Messages.{frames, numberOf, kindAt, firstOf, codesOf}
+use Rattle.frame.specs.Messages.{frames, kinds, numberOf, kindAt, firstOf, codesOf}
 use Rattle.frame.proofs.Kind.{the-type}
 use Rattle.frame.proofs.Every.{tag}
 use Rattle.frame.proofs.Rows.{within-kind, no-frame}
@@ -19,24 +19,22 @@ use Rattle.device.specs.Choose.{choose}
 use Rattle.device.specs.Reply.{sends}
 use Rattle.device.specs.Take.{Rule, number, select, rules, takes}
 use Rattle.device.specs.declared.Device.{Device}
-use Rattle.device.specs.declared.Sent.{Sent}
+use Rattle.device.specs.Sent.{Sent}
 
 pub listed : (j : Kind) {k : Kind} {x : Sent} (d : Device) (f : ℕ) → numberOf k ≡ kindAt f → k ≡ j →
     x ≡ select (numberOf j) (rules d f) (sends d f) → x ≡ takes d f
 unfolding takes
 listed j d f e q h = rw (← e, q) h
 
+both-true : (a b : Bool) → (a && b) ≡ true → (a ≡ true) × (b ≡ true)
+both-true true b h = (refl, h)
+both-true false b h = let z : false ≡ true = h in (z, cc)
+
+-- ---- a kind without a rule, among the frames of a class
+
 abbrev free : ℕ → List ℕ → Bool
 free k [] = true
 free k (j ∷ js) = cond (eqb j k) false (free k js)
-
-abbrev unlisted : List ℕ → List Rule → Bool
-unlisted ks [] = true
-unlisted ks (r ∷ rs) = cond (free (r .kind) ks) (unlisted ks rs) false
-
-both : (a b : Bool) → T (cond a b false) → T a × T b
-both true b t = (tt, t)
-both false b t = absurd t
 
 differ : (j k : ℕ) (b : Bool) → T (cond (eqb j k) false b) → (j ≡ k → ⊥) × T b
 differ j k b t = split (eqb j k) refl t
@@ -51,35 +49,64 @@ apart (j ∷ []) n k o t q = differ j k true t .0 (sym o ∙ q)
 apart (j ∷ i ∷ ks) n k o t q =
     let p = differ j k (free k (i ∷ ks)) t in ⊎-elim (λ e. p .0 (sym e ∙ q)) (λ m. apart (i ∷ ks) n k m (p .1) q) o
 
-falls : (ks : List ℕ) (n : ℕ) (rs : List Rule) (s : Sent) → OneOf ks n → T (unlisted ks rs) → select n rs s ≡ s
-unfolding choose
-falls ks n [] s o t = refl
-falls ks n (r ∷ rs) s o t =
-    let p = both (free (r .kind) ks) (unlisted ks rs) t in
-    rw (ne-eqb n (r .kind) (apart ks n (r .kind) o (p .0))) (falls ks n rs s o (p .1))
+both : (a b : Bool) → T (cond a b false) → T a × T b
+both true b t = (tt, t)
+both false b t = absurd t
 
--- the n numbers from i on that are no rule's kind
-abbrev absent : ℕ → List Rule → List ℕ → List ℕ
-absent k [] ks = k ∷ ks
-absent k (r ∷ rs) ks = cond (eqb k (r .kind)) ks (absent k rs ks)
+-- the class: the frames from lo to below hi
+module _ (lo hi : ℕ) where
+  -- kind k of the list has no code there
+  abbrev outside : ℕ → Bool
+  outside k = ltb 0 k && (leb hi (firstOf k) || leb (firstOf k + codesOf k) lo)
 
-abbrev pub rest : List Rule → ℕ → ℕ → List ℕ
-rest rs i zero = []
-rest rs i (suc n) = absent i rs (rest rs (suc i) n)
+  elsewhere : (f k : ℕ) → lo ≤ f → f < hi → outside k ≡ true → kindAt f ≡ k → ⊥
+  elsewhere f k l h o e =
+      let p = both-true (ltb 0 k) (leb hi (firstOf k) || leb (firstOf k + codesOf k) lo) o in
+      let w = within-kind f k e (ltb-true 0 k (p .0)) in
+      go (leb hi (firstOf k)) (leb (firstOf k + codesOf k) lo) refl refl (p .1) w
+    where
+      go : (a b : Bool) → leb hi (firstOf k) ≡ a → leb (firstOf k + codesOf k) lo ≡ b → (a || b) ≡ true →
+          (firstOf k ≤ f) × (f < firstOf k + codesOf k) → ⊥
+      go true b p q t w = let m = leb-true hi (firstOf k) p in omega arith
+      go false true p q t w = let m = leb-true (firstOf k + codesOf k) lo q in omega arith
+      go false false p q t w = let y : false ≡ true = t in let z : _≡_ {A = ℕ} 0 1 = cc in omega arith
 
-pub other : (k : Kind) {x : Sent} (d : Device) (f : ℕ) → numberOf k ≡ kindAt f →
-    OneOf (rest (rules d f) 0 43) (tagOf the-type k) →
-    x ≡ sends d f → x ≡ takes d f
-unfolding takes
-other k d f e o h =
-    let z : tagOf the-type k ≡ kindAt f = tag k ∙ e in
-    h ∙ sym (falls (rest (rules d f) 0 43) (kindAt f) (rules d f) (sends d f) (rw z at o) tt)
+  -- each rule's kind is none of ks, or has no code there
+  abbrev pub unlisted : List ℕ → List Rule → Bool
+  unlisted ks [] = true
+  unlisted ks (r ∷ rs) = cond (cond (outside (r .kind)) true (free (r .kind) ks)) (unlisted ks rs) false
+
+  falls : (ks : List ℕ) (f : ℕ) (rs : List Rule) (s : Sent) → lo ≤ f → f < hi → OneOf ks (kindAt f) →
+      T (unlisted ks rs) → select (kindAt f) rs s ≡ s
+  unfolding choose
+  falls ks f [] s l h o t = refl
+  falls ks f (r ∷ rs) s l h o t =
+      let p = both (cond (outside (r .kind)) true (free (r .kind) ks)) (unlisted ks rs) t in
+      rw (ne-eqb (kindAt f) (r .kind) (go (outside (r .kind)) refl (p .0))) (falls ks f rs s l h o (p .1))
+    where
+      go : (a : Bool) → outside (r .kind) ≡ a → T (cond a true (free (r .kind) ks)) → kindAt f ≡ r .kind → ⊥
+      go true q u = elsewhere f (r .kind) l h q
+      go false q u = apart ks (kindAt f) (r .kind) o u
+
+  -- the n numbers from i on that are the kind of no rule there
+  abbrev absent : ℕ → List Rule → List ℕ → List ℕ
+  absent k [] ks = k ∷ ks
+  absent k (r ∷ rs) ks = cond (cond (outside (r .kind)) false (eqb k (r .kind))) ks (absent k rs ks)
+
+  abbrev pub rest : List Rule → ℕ → ℕ → List ℕ
+  rest rs i zero = []
+  rest rs i (suc n) = absent i rs (rest rs (suc i) n)
+
+  pub other : (k : Kind) {x : Sent} (d : Device) (f : ℕ) → numberOf k ≡ kindAt f → lo ≤ f → f < hi →
+      OneOf (rest (rules d f) 0 kinds) (tagOf the-type k) → T (unlisted (rest (rules d f) 0 kinds) (rules d f)) →
+      x ≡ sends d f → x ≡ takes d f
+  unfolding takes
+  other k d f e l h o t s =
+      let ks = rest (rules d f) 0 kinds in
+      let z : tagOf the-type k ≡ kindAt f = tag k ∙ e in
+      s ∙ sym (falls ks f (rules d f) (sends d f) l h (rw z at o) t)
 
 -- ---- the number of LAD, TAD and AAD
-
-both-true : (a b : Bool) → (a && b) ≡ true → (a ≡ true) × (b ≡ true)
-both-true true b h = (refl, h)
-both-true false b h = let z : false ≡ true = h in (z, cc)
 
 -- a kind of the list whose codes start at a multiple of 32 and are at most 32
 abbrev fiveBits : ℕ → Bool

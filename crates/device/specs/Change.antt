@@ -1,88 +1,116 @@
 -- A device with some of its values changed: each change names what is new, and all else stays.
 use Prim.Native.Nat.{ℕ}
-use mathlib.Core.List.{List}
+use mathlib.Core.Bool.{cond}
+use mathlib.Core.List.{List, [], _∷_}
+use lib.Dec.{eqb}
 use lib.ListN.{length}
 use Rattle.device.specs.Device.{mostData}
 use Rattle.device.specs.PowerOn.{bytesFrom}
 use Rattle.device.specs.declared.Device.{Device}
 
--- the values that a frame can change
-abbrev pub changed : Device → (address configured listener talker service noted sent last replied : ℕ) → Device
-changed d address configured listener talker service noted sent last replied =
+-- the values that can change, each named by its place in the record (01, The lent area)
+abbrev pub address : ℕ
+address = 2
+
+abbrev pub configured : ℕ
+configured = 3
+
+abbrev pub listener : ℕ
+listener = 4
+
+abbrev pub talker : ℕ
+talker = 5
+
+abbrev pub service : ℕ
+service = 6
+
+abbrev pub noted : ℕ
+noted = 8
+
+abbrev pub status : ℕ
+status = 9
+
+abbrev pub loadlength : ℕ
+loadlength = 12
+
+abbrev pub sent : ℕ
+sent = 13
+
+abbrev pub last : ℕ
+last = 14
+
+abbrev pub replied : ℕ
+replied = 16
+
+-- a value, and what becomes of it
+pub record Edit : Type 0 where
+  pub value : ℕ
+  pub new : ℕ
+
+infix 70 _becomes_
+abbrev pub _becomes_ : ℕ → ℕ → Edit
+v becomes n = record { value = v; new = n }
+
+-- what becomes of the value v: its edit, or else what it was
+abbrev pub after : List Edit → (v old : ℕ) → ℕ
+after [] v old = old
+after (e ∷ es) v old = cond (eqb (e .value) v) (e .new) (after es v old)
+
+-- the device with these edits, and with this data
+abbrev pub remade : Device → List Edit → List ℕ → Device
+remade d es load =
     record {
       abilities = d .abilities;
       fixed = d .fixed;
-      address = address;
-      configured = configured;
-      listener = listener;
-      talker = talker;
-      service = service;
-      noted = noted;
-      status = d .status;
+      address = after es address (d .address);
+      configured = after es configured (d .configured);
+      listener = after es listener (d .listener);
+      talker = after es talker (d .talker);
+      service = after es service (d .service);
+      noted = after es noted (d .noted);
+      status = after es status (d .status);
       accessory = d .accessory;
       idlength = d .idlength;
-      loadlength = d .loadlength;
-      sent = sent;
-      last = last;
-      replied = replied;
-      id = d .id;
-      load = d .load;
-    }
-
--- listener x
-abbrev pub listening : Device → ℕ → Device
-listening d x = changed d (d .address) (d .configured) x (d .talker) (d .service) (d .noted) (d .sent) (d .last)
-    (d .replied)
-
--- talker x, nothing of a reply sent yet or any more: bytes 8, 14, 15, 16 are zero
-abbrev pub talking : Device → ℕ → Device
-talking d x = changed d (d .address) (d .configured) (d .listener) x (d .service) 0 (d .sent) 0 0
-
--- address now a, configured x
-abbrev pub placed : Device → ℕ → ℕ → Device
-placed d a x = changed d a x (d .listener) (d .talker) (d .service) (d .noted) (d .sent) (d .last) (d .replied)
-
--- service x
-abbrev pub serving : Device → ℕ → Device
-serving d x = changed d (d .address) (d .configured) (d .listener) (d .talker) x (d .noted) (d .sent) (d .last)
-    (d .replied)
-
--- NRD seen
-abbrev pub noting : Device → Device
-noting d = changed d (d .address) (d .configured) (d .listener) (d .talker) (d .service) 1 (d .sent) (d .last)
-    (d .replied)
-
--- last frame sent f, bytes of the data sent s, bytes of another reply sent r
-abbrev pub counting : Device → (f s r : ℕ) → Device
-counting d f s r = changed d (d .address) (d .configured) (d .listener) (d .talker) (d .service) (d .noted) s f r
-
--- the values that a local call can change besides service
-abbrev pub stocked : Device → (status loadlength sent : ℕ) → List ℕ → Device
-stocked d status loadlength sent load =
-    record {
-      abilities = d .abilities;
-      fixed = d .fixed;
-      address = d .address;
-      configured = d .configured;
-      listener = d .listener;
-      talker = d .talker;
-      service = d .service;
-      noted = d .noted;
-      status = status;
-      accessory = d .accessory;
-      idlength = d .idlength;
-      loadlength = loadlength;
-      sent = sent;
-      last = d .last;
-      replied = d .replied;
+      loadlength = after es loadlength (d .loadlength);
+      sent = after es sent (d .sent);
+      last = after es last (d .last);
+      replied = after es replied (d .replied);
       id = d .id;
       load = load;
     }
 
+-- the device with these edits
+abbrev pub changed : Device → List Edit → Device
+changed d es = remade d es (d .load)
+
+-- listener x
+abbrev pub listening : Device → ℕ → Device
+listening d x = changed d (listener becomes x ∷ [])
+
+-- talker x, nothing of a reply sent yet or any more: bytes 8, 14, 15, 16 are zero
+abbrev pub talking : Device → ℕ → Device
+talking d x = changed d (talker becomes x ∷ noted becomes 0 ∷ last becomes 0 ∷ replied becomes 0 ∷ [])
+
+-- address now a, configured x
+abbrev pub placed : Device → ℕ → ℕ → Device
+placed d a x = changed d (address becomes a ∷ configured becomes x ∷ [])
+
+-- service x
+abbrev pub serving : Device → ℕ → Device
+serving d x = changed d (service becomes x ∷ [])
+
+-- NRD seen
+abbrev pub noting : Device → Device
+noting d = changed d (noted becomes 1 ∷ [])
+
+-- last frame sent f, bytes of the data sent s, bytes of another reply sent r
+abbrev pub counting : Device → (f s r : ℕ) → Device
+counting d f s r = changed d (last becomes f ∷ sent becomes s ∷ replied becomes r ∷ [])
+
 -- the data bs, none of it sent
 abbrev pub loading : Device → List ℕ → Device
-loading d bs = stocked d (d .status) (length bs) 0 (bytesFrom 0 mostData bs)
+loading d bs = remade d (loadlength becomes length bs ∷ sent becomes 0 ∷ []) (bytesFrom 0 mostData bs)
 
 -- status s
 abbrev pub statusing : Device → ℕ → Device
-statusing d s = stocked d s (d .loadlength) (d .sent) (d .load)
+statusing d s = changed d (status becomes s ∷ [])

@@ -5,7 +5,7 @@ use Rattle.device.specs.Choose.{choose}
 use Rattle.device.specs.Device.{sending}
 use Rattle.device.specs.Reply.{eto, ete, c1, c2, sends, marked, stops, continues}
 use Rattle.device.specs.declared.Device.{Device}
-use Rattle.device.specs.declared.Sent.{Sent}
+use Rattle.device.specs.Sent.{Sent}
 use Rattle.device.specs.declared.Handed.the-variants.{Byte}
 
 -- the eight data bits of a frame, and its end bit C2

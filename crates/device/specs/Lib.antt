@@ -3,9 +3,11 @@ pub mod Choose
 pub mod Device
 pub mod PowerOn
 pub mod Change
+pub mod Sent
 pub mod Commands
 pub mod Reply
 pub mod Ready
 pub mod Data
 pub mod Take
+pub mod Classes
 pub mod Rows

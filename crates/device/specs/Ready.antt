@@ -6,7 +6,7 @@ use Rattle.device.specs.Device.{status, autoAddress, addressed, sendingS
 use Rattle.device.specs.Change.{talking, placed, serving, noting}
 use Rattle.device.specs.Reply.{sends, continues}
 use Rattle.device.specs.declared.Device.{Device}
-use Rattle.device.specs.declared.Sent.{Sent}
+use Rattle.device.specs.Sent.{Sent}
 
 -- SDA, SDI, SAI in talker state 1 with the ability: the first byte of the reply, in its state
 unfoldable pub requested : Device → ℕ → (ability state : ℕ) → Sent

@@ -6,7 +6,7 @@ use Rattle.device.specs.Choose.{choose}
 use Rattle.device.specs.Device.{addressed, sendingData, sendingStatus, sendingDeviceID, asking}
 use Rattle.device.specs.Change.{talking, counting}
 use Rattle.device.specs.declared.Device.{Device}
-use Rattle.device.specs.declared.Sent.{Sent}
+use Rattle.device.specs.Sent.{Sent}
 use Rattle.device.specs.declared.Handed.the-variants.{Nothing}
 
 -- the codes of ETO and ETE

@@ -7,7 +7,7 @@ use Rattle.device.specs.PowerOn.{powerOn}
 use Rattle.device.specs.Change.{talking, placed, serving, loading, statusing}
 use Rattle.device.specs.Take.{takes}
 use Rattle.device.specs.declared.Device.{Device}
-use Rattle.device.specs.declared.Sent.{Sent}
+use Rattle.device.specs.Sent.{Sent}
 
 -- abilities ff, fixed address 1f, all else zero
 abbrev pub unconfigured : Device

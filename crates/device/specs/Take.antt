@@ -13,7 +13,7 @@ use Rattle.device.specs.Reply.{sends}
 use Rattle.device.specs.Ready.{requested, sst, nrd, aad}
 use Rattle.device.specs.Data.{dataOrEnd, idy}
 use Rattle.device.specs.declared.Device.{Device}
-use Rattle.device.specs.declared.Sent.{Sent}
+use Rattle.device.specs.Sent.{Sent}
 
 pub record Rule : Type 0 where
   pub kind : ℕ

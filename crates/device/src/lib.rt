@@ -1,14 +1,6 @@
-// One device of the loop by value: its fields as 01's table of the record has them, and its state at power-on.
-// What it does with a frame stands in commands, ready, reply, data and take.
-mod change;
-mod commands;
-mod data;
-mod ready;
-mod reply;
-mod take;
-
+// One device of the loop: its fields as 01's table of the record has them, and all of it at power-on. What it does with
+// a frame is said in specs/, and done by the crates above on the state that a frame can alter.
 ghost use mathlib.Core.Path.{_≡_};
-ghost use Rattle.device.specs.Device.{has, talks};
 ghost use Rattle.device.specs.PowerOn.{powerOn};
 
 pub struct Device {
@@ -35,13 +27,6 @@ pub struct Device {
 pub enum Handed {
     Nothing,
     Byte(u8, u8),
-}
-
-// The device after a frame, the frame that it sends and what it is handed.
-pub struct Sent {
-    pub device: Device,
-    pub frame: u16,
-    pub handed: Handed,
 }
 
 impl Device {
@@ -88,20 +73,6 @@ impl Device {
     pub const MOST_ID: usize = 8;
 
     pub const MOST_DATA: usize = 32;
-
-    pub fn has(self, ability: u8) -> bool
-        ensures { λ r. ⌜ r ≡ has self ability ⌝ }
-    {
-        self.abilities & ability != 0
-    }
-
-    // Some of the four abilities whose replies a talker sends.
-    pub fn talks(self) -> bool
-        ensures { λ r. ⌜ r ≡ talks self ⌝ }
-    {
-        self.has(Self::SEND_DATA)
-            | (self.has(Self::STATUS) | (self.has(Self::DEVICE_ID) | self.has(Self::ACCESSORY_ID)))
-    }
 
     // The device of a set-up item: abilities, fixed address, accessory ID, ID length, ID.
     pub fn power_on(item: [u8; 12]) -> Self

@@ -3,22 +3,24 @@ use area::Oldest;
 use area::Room;
 use area::change::add_at;
 use area::change::remove_at;
-use area::change::set_device;
-use area::lookup::device_at;
 use area::lookup::oldest_at;
+use area::lookup::record_start;
 use area::lookup::room_at;
 use calls::EMPTY;
 use calls::FULL;
 use calls::HopAnswer;
 use device::Handed;
-use device::Sent;
 use find::Found;
 use find::find;
+use state::Passed;
+use taker::take_in;
 ghost use mathlib.Core.Path.{_≡_};
-ghost use Rattle.area.specs.Loop.{loopOf, Holds, HasDevice};
+ghost use Rattle.area.specs.Loop.{loopOf, device, Holds, HasDevice};
+ghost use Rattle.area.specs.Lookup.{setDevice};
 ghost use Rattle.calls.specs.Outcome.{Is, afterOf};
 ghost use Rattle.calls.specs.Calls.{noHop, hopAnswer, sentBy, passed, hopIn, hopOf};
 ghost use Rattle.calls.specs.Inner.{Passes};
+ghost use Rattle.state.specs.State.{sentWith};
 
 fn no_hop(refusal: u8) -> HopAnswer
     ensures { λ r. ⌜ r ≡ noHop refusal ⌝ }
@@ -33,11 +35,11 @@ fn no_hop(refusal: u8) -> HopAnswer
 }
 
 // What a hop sent, and the byte handed, if any.
-fn hop_answer(sent: Sent) -> HopAnswer
-    ensures { λ r. ⌜ r ≡ hopAnswer (sent .frame) (sent .handed) ⌝ }
+fn hop_answer(passed: Passed) -> HopAnswer
+    ensures { λ r. ⌜ r ≡ hopAnswer (passed .frame) (passed .handed) ⌝ }
 {
-    let frame = sent.frame;
-    let handed = sent.handed;
+    let frame = passed.frame;
+    let handed = passed.handed;
     match handed {
         Handed::Byte(byte, end) => HopAnswer {
             frame,
@@ -56,18 +58,27 @@ fn hop_answer(sent: Sent) -> HopAnswer
     }
 }
 
+// Device i takes a frame in its record.
+fn take_at(area: &mut [u8], i: usize, frame: u16) -> Passed
+    requires { ⌜ HasDevice (now area) i ⌝ }
+    ensures { λ r. ⌜ sentWith (device (loopOf (now (area .entry))) i) r ≡ sentBy i frame (loopOf (now (area .entry))) ⌝ }
+    ensures { λ r. ⌜ Holds (now (area .exit))
+        (setDevice i (sentBy i frame (loopOf (now (area .entry))) .device) (loopOf (now (area .entry)))) ⌝ }
+{
+    let at = record_start(area, i);
+    take_in(&mut area[at..at + record::SIZE], frame)
+}
+
 // Device i takes a frame, its oldest, and sends one, for which there is room.
-fn pass_on(area: &mut [u8], i: usize, frame: u16, behind: usize) -> Sent
+fn pass_on(area: &mut [u8], i: usize, frame: u16, behind: usize) -> Passed
     requires { ⌜ Passes (now area) i frame behind ⌝ }
-    ensures { λ r. ⌜ r ≡ sentBy i frame (loopOf (now (area .entry))) ⌝ }
+    ensures { λ r. ⌜ sentWith (device (loopOf (now (area .entry))) i) r ≡ sentBy i frame (loopOf (now (area .entry))) ⌝ }
     ensures { λ r. ⌜ Holds (now (area .exit)) (passed i frame (loopOf (now (area .entry)))) ⌝ }
 {
-    let sent = device_at(area, i).take(frame);
-    let next = sent.device;
-    set_device(area, i, next);
+    let passed = take_at(area, i, frame);
     remove_at(area, i);
-    add_at(area, i + 1, behind, sent.frame);
-    sent
+    add_at(area, i + 1, behind, passed.frame);
+    passed
 }
 
 // A hop of device i in an area without a refusal.

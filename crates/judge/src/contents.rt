@@ -2,9 +2,10 @@
 use area::DEPTH;
 use area::HEADER_SIZE;
 use area::LINK_SIZE;
+use record::word_at;
 ghost use mathlib.Core.Path.{_≡_};
 ghost use Prim.Native.Nat.{_*_, _≤_};
-ghost use lib.ListN.{length};
+ghost use lib.ListN.{length, getD};
 ghost use Rattle.device.specs.PowerOn.{bytesFrom};
 ghost use Rattle.record.specs.Record.{recordSize, zeros};
 ghost use Rattle.record.specs.Sound.{soundRecord};
@@ -33,24 +34,39 @@ fn records_sound(records: &[u8], n: usize) -> bool
 fn slot_sound(n: u8, k: u8, f: u16) -> bool
     ensures { λ r. ⌜ r ≡ soundSlot n k f ⌝ }
 {
-    if k < n {
-        f < frame::FRAMES as u16
-    } else {
-        f == 0
-    }
+    (f < frame::FRAMES as u16) & ((k < n) | (f == 0))
 }
 
-fn link_sound(link: &[u8]) -> bool
+// A link that holds no frame: most do.
+fn empty_sound(link: &[u8]) -> bool
+    requires { ⌜ (length (now link) ≡ linkSize) × (getD (now link) 0 0 ≡ 0) ⌝ }
+    ensures { λ r. ⌜ r ≡ soundLink (now (link .entry)) ⌝ }
+{
+    (link[1] == 0)
+        & ((word_at(link, 2) == 0)
+            & ((word_at(link, 4) == 0) & ((word_at(link, 6) == 0) & (word_at(link, 8) == 0))))
+}
+
+fn frames_sound(link: &[u8]) -> bool
     requires { ⌜ length (now link) ≡ linkSize ⌝ }
     ensures { λ r. ⌜ r ≡ soundLink (now (link .entry)) ⌝ }
 {
     let n = link[0];
     (n <= DEPTH as u8)
         & ((link[1] == 0)
-            & (slot_sound(n, 0, record::word_at(link, 2))
-                & (slot_sound(n, 1, record::word_at(link, 4))
-                    & (slot_sound(n, 2, record::word_at(link, 6))
-                        & slot_sound(n, 3, record::word_at(link, 8))))))
+            & (slot_sound(n, 0, word_at(link, 2))
+                & (slot_sound(n, 1, word_at(link, 4))
+                    & (slot_sound(n, 2, word_at(link, 6)) & slot_sound(n, 3, word_at(link, 8))))))
+}
+
+fn link_sound(link: &[u8]) -> bool
+    requires { ⌜ length (now link) ≡ linkSize ⌝ }
+    ensures { λ r. ⌜ r ≡ soundLink (now (link .entry)) ⌝ }
+{
+    if link[0] == 0 {
+        return empty_sound(link);
+    }
+    frames_sound(link)
 }
 
 fn links_sound(links: &[u8], n: usize) -> bool

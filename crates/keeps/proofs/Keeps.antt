@@ -21,8 +21,8 @@ use Rattle.device.specs.Data.{returned, heard, dataOrEnd}
 use Rattle.device.specs.Take.{Rule, number, rules, select, takes}
 use Rattle.local.specs.Local.{loads, setsStatus, wishing, wishes}
 use Rattle.device.specs.declared.Device.{Device}
-use Rattle.device.specs.declared.Sent.{Sent}
-use Rattle.local.specs.declared.Called.{Called}
+use Rattle.device.specs.Sent.{Sent}
+use Rattle.local.specs.Local.{Called}
 use Rattle.record.specs.Fits.{Good}
 use Rattle.keeps.specs.Keeps.{TakeKeeps, TakeBelow, LoadKeeps, StatusKeeps, WishKeeps, LeavingZeroes}
 use Rattle.keeps.proofs.Groups.{Kept, kept-of, good-of, lt-out}

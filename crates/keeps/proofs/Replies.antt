@@ -11,7 +11,7 @@ use Rattle.device.specs.Choose.{choose}
 use Rattle.device.specs.Device.{has, talks}
 use Rattle.device.specs.Reply.{eto, marked, stops, dataFrame, otherByte, otherLength, sendsData, sendsOther, continues}
 use Rattle.device.specs.declared.Device.{Device}
-use Rattle.device.specs.declared.Sent.{Sent}
+use Rattle.device.specs.Sent.{Sent}
 use Rattle.keeps.proofs.Groups.{Kept, Sized, Made, Placed, Listens, Serves, Loads}
 use Rattle.keeps.proofs.Changes.{rested}
 

@@ -1,2 +1,2 @@
--- Arms has what a return follows from.
-mod Arms
+-- Records written in place, and what a call leaves of one.
+pub mod InPlace

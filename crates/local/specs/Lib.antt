@@ -1,2 +1,3 @@
--- The local calls of a device.
+-- The local calls of a device, and such a call in its record.
 pub mod Local
+pub mod InPlace

@@ -7,7 +7,11 @@ use Rattle.device.specs.Choose.{choose}
 use Rattle.device.specs.Device.{sendData, status, serviceRequest, sendingData, noService, asking, mostData, has}
 use Rattle.device.specs.Change.{serving, loading, statusing}
 use Rattle.device.specs.declared.Device.{Device}
-use Rattle.local.specs.declared.Called.{Called}
+
+-- what a local call leaves: refusal 0 and the next device, or a refusal and the device as it was
+pub record Called : Type 0 where
+  pub refusal : ℕ
+  pub device : Device
 
 -- refusals: no ability, too long, busy
 abbrev pub noAbility : ℕ

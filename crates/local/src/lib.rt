@@ -1,11 +1,24 @@
-// The local calls of a device (01, The calls), refused with 7, 8, 9 in that order.
+// The local calls of a device (01, The calls), made in its record, refused with 7, 8, 9 in that order. Only the bytes
+// that a call speaks of are written.
 use device::Device;
+use record::LOAD;
+use record::LOAD_LENGTH;
+use record::SENT;
+use record::SERVICE;
+use record::SIZE;
+use record::STATUS;
+use record::TALKER;
+use record::read::has;
+use record::write::clear;
 ghost use mathlib.Core.Path.{_≡_};
 ghost use Prim.Native.Nat.{_≤_};
 ghost use lib.ListN.{length};
 ghost use Rattle.device.specs.PowerOn.{bytesFrom};
 ghost use Rattle.device.specs.Change.{loading};
-ghost use Rattle.local.specs.Local.{accepted, refused, loads, setsStatus, wishing, wishes};
+ghost use Rattle.record.specs.Record.{deviceOf, recordOf};
+ghost use Rattle.record.specs.Written.{IsRecord};
+ghost use Rattle.local.specs.Local.{loads, setsStatus, wishing, wishes};
+ghost use Rattle.local.specs.InPlace.{InPlace};
 
 const NO_ABILITY: u8 = 7;
 
@@ -13,92 +26,77 @@ const TOO_LONG: u8 = 8;
 
 const BUSY: u8 = 9;
 
-// What a local call leaves: refusal 0 and the next device, or a refusal and the device as it was.
-pub struct Called {
-    pub refusal: u8,
-    pub device: Device,
-}
-
-fn accepted(device: Device) -> Called
-    ensures { λ r. ⌜ r ≡ accepted device ⌝ }
-{
-    Called { refusal: 0, device }
-}
-
-fn refused(refusal: u8, device: Device) -> Called
-    ensures { λ r. ⌜ r ≡ refused refusal device ⌝ }
-{
-    Called { refusal, device }
-}
-
 // The bytes, and zeros behind them.
-fn padded(bytes: &[u8]) -> [u8; 32]
-    requires { ⌜ length (now bytes) ≤ 32 ⌝ }
-    ensures { λ r. ⌜ r ≡ bytesFrom 0 32 (now (bytes .entry)) ⌝ }
+fn fill(to: &mut [u8], bytes: &[u8])
+    requires { ⌜ (length (now bytes) ≤ 32) × (length (now to) ≡ 32) ⌝ }
+    ensures { λ _. ⌜ now (to .exit) ≡ bytesFrom 0 32 (now (bytes .entry)) ⌝ }
 {
-    let mut load = [0u8; 32];
-    bytes::copy(bytes, &mut load);
-    load
+    clear(to);
+    bytes::copy(bytes, to);
 }
 
-fn loading(mut device: Device, bytes: &[u8]) -> Device
-    requires { ⌜ length (now bytes) ≤ 32 ⌝ }
-    ensures { λ r. ⌜ r ≡ loading device (now (bytes .entry)) ⌝ }
+fn loading(rec: &mut [u8], bytes: &[u8])
+    requires { ⌜ IsRecord (now rec) × (length (now bytes) ≤ 32) ⌝ }
+    ensures { λ _. ⌜ now (rec .exit) ≡ recordOf (loading (deviceOf (now (rec .entry))) (now (bytes .entry))) ⌝ }
 {
-    let load = padded(bytes);
-    device.loadlength = bytes.len() as u8;
-    device.sent = 0;
-    device.load = load;
-    device
+    rec[LOAD_LENGTH] = bytes.len() as u8;
+    rec[SENT] = 0;
+    fill(&mut rec[LOAD..SIZE], bytes);
 }
 
 // Load data.
-pub fn load(device: Device, bytes: &[u8]) -> Called
-    ensures { λ r. ⌜ r ≡ loads device (now (bytes .entry)) ⌝ }
+pub fn load(rec: &mut [u8], bytes: &[u8]) -> u8
+    requires { ⌜ IsRecord (now rec) ⌝ }
+    ensures { λ r. ⌜ InPlace (now (rec .entry)) (loads (deviceOf (now (rec .entry))) (now (bytes .entry))) r
+        (now (rec .exit)) ⌝ }
 {
-    if device.has(Device::SEND_DATA) {
+    if has(rec, Device::SEND_DATA) {
         if Device::MOST_DATA < bytes.len() {
-            return refused(TOO_LONG, device);
+            return TOO_LONG;
         }
-        if device.talker == Device::SENDING_DATA {
-            return refused(BUSY, device);
+        if rec[TALKER] == Device::SENDING_DATA {
+            return BUSY;
         }
-        return accepted(loading(device, bytes));
+        loading(rec, bytes);
+        return 0;
     }
-    refused(NO_ABILITY, device)
+    NO_ABILITY
 }
 
 // Set status.
-pub fn status(mut device: Device, status: u8) -> Called
-    ensures { λ r. ⌜ r ≡ setsStatus device status ⌝ }
+pub fn status(rec: &mut [u8], status: u8) -> u8
+    requires { ⌜ IsRecord (now rec) ⌝ }
+    ensures { λ r. ⌜ InPlace (now (rec .entry)) (setsStatus (deviceOf (now (rec .entry))) status) r (now (rec .exit)) ⌝ }
 {
-    if device.has(Device::STATUS) {
-        device.status = status;
-        return accepted(device);
+    if has(rec, Device::STATUS) {
+        rec[STATUS] = status;
+        return 0;
     }
-    refused(NO_ABILITY, device)
+    NO_ABILITY
 }
 
-fn wishing(mut device: Device, wish: u64) -> Device
-    ensures { λ r. ⌜ r ≡ wishing device wish ⌝ }
+fn wishing(rec: &mut [u8], wish: u64)
+    requires { ⌜ IsRecord (now rec) ⌝ }
+    ensures { λ _. ⌜ now (rec .exit) ≡ recordOf (wishing (deviceOf (now (rec .entry))) wish) ⌝ }
 {
     if wish == 0 {
-        device.service = Device::NO_SERVICE;
-        return device;
+        rec[SERVICE] = Device::NO_SERVICE;
+        return;
     }
-    if device.service == Device::NO_SERVICE {
-        device.service = Device::ASKING;
-        return device;
+    if rec[SERVICE] == Device::NO_SERVICE {
+        rec[SERVICE] = Device::ASKING;
+        return;
     }
-    device
 }
 
 // Wish for service.
-pub fn wish(device: Device, wish: u64) -> Called
-    ensures { λ r. ⌜ r ≡ wishes device wish ⌝ }
+pub fn wish(rec: &mut [u8], wish: u64) -> u8
+    requires { ⌜ IsRecord (now rec) ⌝ }
+    ensures { λ r. ⌜ InPlace (now (rec .entry)) (wishes (deviceOf (now (rec .entry))) wish) r (now (rec .exit)) ⌝ }
 {
-    if device.has(Device::SERVICE_REQUEST) {
-        return accepted(wishing(device, wish));
+    if has(rec, Device::SERVICE_REQUEST) {
+        wishing(rec, wish);
+        return 0;
     }
-    refused(NO_ABILITY, device)
+    NO_ABILITY
 }

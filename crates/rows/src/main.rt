@@ -1,8 +1,10 @@
 // Runs 01's cases under "Run:", and prints what happened in each, a line a case.
-use device::Device;
+use area::HEADER_SIZE;
 use print::decimal;
 use print::hex;
 use print::text;
+use record::LOAD_LENGTH;
+use record::TALKER;
 
 fn main() {
     text(b"codes\n");
@@ -29,43 +31,51 @@ fn decoded(frame: u64) {
     text(b"\n");
 }
 
-fn refusal(number: u8) {
-    text(b": refusal ");
+fn byte(number: u8) {
     decimal(number as u64);
 }
 
-// Abilities ff, fixed address 1f, as in 01's rows.
-fn unconfigured() -> Device {
-    Device::power_on([0xff, 0x1f, 0, 0, 0, 0, 0, 0, 0, 0, 0, 0])
+fn refusal(number: u8) {
+    text(b": refusal ");
+    byte(number);
 }
 
-// TAD 31 is UNT, so the device is given address 0 by AAD 0 before TAD 0 makes it a talker.
-fn talker() -> Device {
-    let configured = unconfigured().take(0x580);
-    let device = configured.device;
-    let addressed = device.take(0x440);
-    addressed.device
+// A loop of one device: abilities ff, fixed address 1f, as in 01's rows.
+fn alone(area: &mut [u8]) {
+    let item = [0xff, 0x1f, 0, 0, 0, 0, 0, 0, 0, 0, 0, 0];
+    pil::pil_set_up(area, &item);
 }
 
-// SDA with no data.
+// The device takes a frame: the frame that it sends.
+fn sent(area: &mut [u8], frame: u64) -> u16 {
+    pil::pil_put(area, frame);
+    let answer = pil::pil_hop(area, 0);
+    answer.frame
+}
+
+// SDA with no data. TAD 31 is UNT, so the device is given address 0 by AAD 0 before TAD 0 makes it a talker.
 fn no_data() {
-    let sent = talker().take(0x560);
-    let device = sent.device;
+    let mut area = [0u8; 92];
+    alone(&mut area);
+    sent(&mut area, 0x580);
+    sent(&mut area, 0x440);
+    let answer = sent(&mut area, 0x560);
     text(b"560 with no data: ");
-    hex(sent.frame as u64);
+    hex(answer as u64);
     text(b", talker ");
-    decimal(device.talker as u64);
+    byte(area[HEADER_SIZE + TALKER]);
     text(b"\n");
 }
 
 fn loaded(bytes: &[u8]) {
-    let called = local::load(unconfigured(), bytes);
-    let device = called.device;
+    let mut area = [0u8; 92];
+    alone(&mut area);
+    let answer = pil::pil_load(&mut area, 0, bytes);
     text(b"load ");
     decimal(bytes.len() as u64);
-    refusal(called.refusal);
+    refusal(answer);
     text(b", data length ");
-    decimal(device.loadlength as u64);
+    byte(area[HEADER_SIZE + LOAD_LENGTH]);
     text(b"\n");
 }
 

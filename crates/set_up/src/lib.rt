@@ -58,7 +58,7 @@ fn items_allowed(items: &[u8], n: usize) -> bool
     let mut rest = &items[..];
     let mut left = n;
     while left > 0 {
-        if !sound::item_allowed(item_of(&rest[..ITEM_SIZE])) {
+        if !sound::item_allowed(&rest[..ITEM_SIZE]) {
             return false;
         }
         rest = &rest[ITEM_SIZE..];

@@ -1,175 +1,151 @@
-// When a record is sound, clause by clause in the order of 01's "Sound means"; the same clauses judge a set-up item.
+// When a record is sound (01, "Sound means"), judged where it lies; the same clauses judge a set-up item. Each group of
+// clauses stands in a test of its own, so that the first that fails decides.
+mod talker;
+mod zeros;
+
+use crate::talker::talker_right;
+use crate::zeros::spare_zero;
+use crate::zeros::zero_past;
+use crate::zeros::zero_past_length;
 use device::Device;
+use record::ABILITIES;
+use record::ADDRESS;
+use record::CONFIGURED;
+use record::FIXED;
+use record::ID_LENGTH;
+use record::LISTENER;
+use record::LOAD_LENGTH;
+use record::NOTED;
+use record::SERVICE;
+use record::TALKER;
+use record::read::has;
 ghost use mathlib.Core.Path.{_≡_};
-ghost use lib.ListN.{length, drop};
-ghost use Rattle.device.specs.Device.{talks};
-ghost use Rattle.record.specs.Record.{zeros};
-ghost use Rattle.record.specs.Sound.{inRange, serviceWithStatus, unaddressWithBoth, unconfiguredFixed};
-ghost use Rattle.record.specs.Sound.{configuredAble, listenerAble, serviceAble, sendingAble, addressedAble};
-ghost use Rattle.record.specs.Sound.{dataAble, sentWithin, repliedRight, quietOutside, lastBelow, soundDevice};
+ghost use lib.ListN.{length};
+ghost use Rattle.device.specs.declared.Device.{Device};
+ghost use Rattle.record.specs.Record.{recordSize, deviceOf};
+ghost use Rattle.record.specs.Sound.{inRange, serviceWithStatus, unaddressWithBoth, listenerAble, serviceAble};
 ghost use Rattle.record.specs.Sound.{soundRecord, allowed};
+ghost use Rattle.sound.specs.Groups.{abilitiesAllowed, addressRight, ableAll};
 
-// All bytes from a place on are zero. No turn ends the loop early, so that many bytes are tested at a time.
-fn zero_from(s: &[u8], from: u8) -> bool
-    ensures { λ r. ⌜ r ≡ zeros (drop from (now (s .entry))) ⌝ }
+fn in_range(rec: &[u8]) -> bool
+    requires { ⌜ length (now rec) ≡ recordSize ⌝ }
+    ensures { λ r. ⌜ r ≡ inRange (deviceOf (now (rec .entry))) ⌝ }
 {
-    let start = from as usize;
-    let mut zero = true;
-    let mut i = 0;
-    while i < s.len() {
-        zero = zero & ((i < start) | (s[i] == 0));
-        i += 1;
+    (rec[FIXED] <= Device::NO_ADDRESS)
+        & ((rec[ADDRESS] <= Device::NO_ADDRESS)
+            & ((rec[CONFIGURED] <= 1)
+                & ((rec[LISTENER] <= 1)
+                    & ((rec[TALKER] <= Device::SENDING_ACCESSORY_ID)
+                        & ((rec[SERVICE] <= Device::POLLED)
+                            & ((rec[NOTED] <= 1)
+                                & ((rec[ID_LENGTH] <= 8) & (rec[LOAD_LENGTH] <= 32))))))))
+}
+
+// 128 only with 4.
+fn service_with_status(abilities: u8) -> bool
+    ensures { λ r. ⌜ ((d : Device) → d .abilities ≡ abilities → r ≡ serviceWithStatus d) ⌝ }
+{
+    if abilities & Device::SERVICE_REQUEST != 0 {
+        return abilities & Device::STATUS != 0;
     }
-    zero
+    true
 }
 
-fn in_range(d: Device) -> bool
-    ensures { λ r. ⌜ r ≡ inRange d ⌝ }
+// 64 only with 1 and at least one of 2, 4, 8, 16.
+fn unaddress_with_both(abilities: u8) -> bool
+    ensures { λ r. ⌜ ((d : Device) → d .abilities ≡ abilities → r ≡ unaddressWithBoth d) ⌝ }
 {
-    (d.fixed <= Device::NO_ADDRESS)
-        & ((d.address <= Device::NO_ADDRESS)
-            & ((d.configured <= 1)
-                & ((d.listener <= 1)
-                    & ((d.talker <= Device::SENDING_ACCESSORY_ID)
-                        & ((d.service <= Device::POLLED)
-                            & ((d.noted <= 1) & ((d.idlength <= 8) & (d.loadlength <= 32))))))))
+    if abilities & Device::UNADDRESS != 0 {
+        return (abilities & Device::LISTEN != 0)
+            & ((abilities & Device::SEND_DATA != 0)
+                | ((abilities & Device::STATUS != 0)
+                    | ((abilities & Device::DEVICE_ID != 0)
+                        | (abilities & Device::ACCESSORY_ID != 0))));
+    }
+    true
 }
 
-fn id_zero_past(d: Device) -> bool
-    ensures { λ r. ⌜ r ≡ zeros (drop (d .idlength) (d .id)) ⌝ }
+fn abilities_allowed(abilities: u8) -> bool
+    ensures { λ r. ⌜ ((d : Device) → d .abilities ≡ abilities → r ≡ abilitiesAllowed d) ⌝ }
 {
-    let id = d.id;
-    zero_from(&id, d.idlength)
+    if service_with_status(abilities) {
+        return unaddress_with_both(abilities);
+    }
+    false
 }
 
-fn load_zero_past(d: Device) -> bool
-    ensures { λ r. ⌜ r ≡ zeros (drop (d .loadlength) (d .load)) ⌝ }
+// Unconfigured has the fixed address, configured one of 0-30 and ability 32.
+fn address_right(rec: &[u8]) -> bool
+    requires { ⌜ length (now rec) ≡ recordSize ⌝ }
+    ensures { λ r. ⌜ r ≡ addressRight (deviceOf (now (rec .entry))) ⌝ }
 {
-    let load = d.load;
-    zero_from(&load, d.loadlength)
+    let configured = rec[CONFIGURED];
+    match configured {
+        0 => rec[ADDRESS] == rec[FIXED],
+        1 => has(rec, Device::AUTO_ADDRESS) & (rec[ADDRESS] < Device::NO_ADDRESS),
+        _ => true,
+    }
 }
 
-fn service_with_status(d: Device) -> bool
-    ensures { λ r. ⌜ r ≡ serviceWithStatus d ⌝ }
+fn listener_able(rec: &[u8]) -> bool
+    requires { ⌜ length (now rec) ≡ recordSize ⌝ }
+    ensures { λ r. ⌜ r ≡ listenerAble (deviceOf (now (rec .entry))) ⌝ }
 {
-    !(d.abilities & Device::SERVICE_REQUEST != 0) | (d.abilities & Device::STATUS != 0)
+    if rec[LISTENER] == 1 {
+        return has(rec, Device::LISTEN);
+    }
+    true
 }
 
-fn unaddress_with_both(d: Device) -> bool
-    ensures { λ r. ⌜ r ≡ unaddressWithBoth d ⌝ }
+fn service_able(rec: &[u8]) -> bool
+    requires { ⌜ length (now rec) ≡ recordSize ⌝ }
+    ensures { λ r. ⌜ r ≡ serviceAble (deviceOf (now (rec .entry))) ⌝ }
 {
-    let talks = d.talks();
-    !(d.abilities & Device::UNADDRESS != 0) | ((d.abilities & Device::LISTEN != 0) & talks)
+    if Device::NO_SERVICE < rec[SERVICE] {
+        return has(rec, Device::SERVICE_REQUEST);
+    }
+    true
 }
 
-fn unconfigured_fixed(d: Device) -> bool
-    ensures { λ r. ⌜ r ≡ unconfiguredFixed d ⌝ }
+// What a device is able to do and be.
+fn able(rec: &[u8]) -> bool
+    requires { ⌜ length (now rec) ≡ recordSize ⌝ }
+    ensures { λ r. ⌜ r ≡ ableAll (deviceOf (now (rec .entry))) ⌝ }
 {
-    !(d.configured == 0) | (d.address == d.fixed)
-}
-
-fn configured_able(d: Device) -> bool
-    ensures { λ r. ⌜ r ≡ configuredAble d ⌝ }
-{
-    !(d.configured == 1)
-        | ((d.abilities & Device::AUTO_ADDRESS != 0) & (d.address < Device::NO_ADDRESS))
-}
-
-fn listener_able(d: Device) -> bool
-    ensures { λ r. ⌜ r ≡ listenerAble d ⌝ }
-{
-    !(d.listener == 1) | (d.abilities & Device::LISTEN != 0)
-}
-
-fn service_able(d: Device) -> bool
-    ensures { λ r. ⌜ r ≡ serviceAble d ⌝ }
-{
-    !(Device::NO_SERVICE < d.service) | (d.abilities & Device::SERVICE_REQUEST != 0)
-}
-
-fn sending_able(d: Device) -> bool
-    ensures { λ r. ⌜ r ≡ sendingAble d ⌝ }
-{
-    (!(d.talker == Device::SENDING_DATA) | (d.abilities & Device::SEND_DATA != 0))
-        & ((!(d.talker == Device::SENDING_STATUS) | (d.abilities & Device::STATUS != 0))
-            & ((!(d.talker == Device::SENDING_DEVICE_ID) | (d.abilities & Device::DEVICE_ID != 0))
-                & (!(d.talker == Device::SENDING_ACCESSORY_ID)
-                    | (d.abilities & Device::ACCESSORY_ID != 0))))
-}
-
-fn addressed_able(d: Device) -> bool
-    ensures { λ r. ⌜ r ≡ addressedAble d ⌝ }
-{
-    let talks = d.talks();
-    !(d.talker == Device::ADDRESSED) | talks
-}
-
-fn data_able(d: Device) -> bool
-    ensures { λ r. ⌜ r ≡ dataAble d ⌝ }
-{
-    !(0 < d.loadlength) | (d.abilities & Device::SEND_DATA != 0)
-}
-
-fn sent_within(d: Device) -> bool
-    ensures { λ r. ⌜ r ≡ sentWithin d ⌝ }
-{
-    (d.sent <= d.loadlength) & (!(d.talker == Device::SENDING_DATA) | (1 <= d.sent))
-}
-
-fn replied_right(d: Device) -> bool
-    ensures { λ r. ⌜ r ≡ repliedRight d ⌝ }
-{
-    (!(d.talker == Device::SENDING_STATUS) | (d.replied == 1))
-        & ((!(d.talker == Device::SENDING_ACCESSORY_ID) | (d.replied == 1))
-            & ((!(d.talker == Device::SENDING_DEVICE_ID)
-                | ((1 <= d.replied) & (d.replied <= d.idlength)))
-                & (!(d.talker <= Device::SENDING_DATA) | (d.replied == 0))))
-}
-
-fn quiet_outside(d: Device) -> bool
-    ensures { λ r. ⌜ r ≡ quietOutside d ⌝ }
-{
-    !(!(Device::ADDRESSED < d.talker)) | ((d.noted == 0) & (d.last == 0))
-}
-
-fn last_below(d: Device) -> bool
-    ensures { λ r. ⌜ r ≡ lastBelow d ⌝ }
-{
-    d.last < 0x400
-}
-
-// A device is sound: all the clauses.
-fn device_sound(d: Device) -> bool
-    ensures { λ r. ⌜ r ≡ soundDevice d ⌝ }
-{
-    in_range(d)
-        & ((id_zero_past(d) & load_zero_past(d))
-            & (service_with_status(d)
-                & (unaddress_with_both(d)
-                    & (unconfigured_fixed(d)
-                        & (configured_able(d)
-                            & (listener_able(d)
-                                & (service_able(d)
-                                    & (sending_able(d)
-                                        & (addressed_able(d)
-                                            & (data_able(d)
-                                                & (sent_within(d)
-                                                    & (replied_right(d)
-                                                        & (quiet_outside(d)
-                                                            & last_below(d))))))))))))))
+    if abilities_allowed(rec[ABILITIES]) {
+        if address_right(rec) {
+            if listener_able(rec) {
+                return service_able(rec);
+            }
+            return false;
+        }
+        return false;
+    }
+    false
 }
 
 // A record of 64 bytes is sound: its spare bytes are zero, and its device is sound.
 pub fn record_sound(rec: &[u8]) -> bool
-    requires { ⌜ length (now rec) ≡ 64 ⌝ }
+    requires { ⌜ length (now rec) ≡ recordSize ⌝ }
     ensures { λ r. ⌜ r ≡ soundRecord (now (rec .entry)) ⌝ }
 {
-    (rec[7] == 0) & (zero_from(&rec[17..24], 0) & device_sound(record::read(rec)))
+    if spare_zero(rec) & in_range(rec) {
+        if zero_past(rec) {
+            if able(rec) {
+                return talker_right(rec);
+            }
+            return false;
+        }
+        return false;
+    }
+    false
 }
 
-// A set-up item is allowed: its device at power-on is sound.
-pub fn item_allowed(item: [u8; 12]) -> bool
-    ensures { λ r. ⌜ r ≡ allowed item ⌝ }
+// A set-up item is allowed: its device at power-on is sound. What else that asks is zero there.
+pub fn item_allowed(item: &[u8]) -> bool
+    requires { ⌜ length (now item) ≡ 12 ⌝ }
+    ensures { λ r. ⌜ r ≡ allowed (now (item .entry)) ⌝ }
 {
-    device_sound(Device::power_on(item))
+    (item[1] <= Device::NO_ADDRESS)
+        & ((item[3] <= 8) & (zero_past_length(&item[4..12], item[3]) & abilities_allowed(item[0])))
 }

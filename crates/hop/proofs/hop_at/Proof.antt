@@ -2,7 +2,7 @@
 use mathlib.Core.Path.{refl, sym, ap, _∙_}
 use native.Mathlib.Omega.{arith}
 use native.Mathlib.Numerals.{add-one}
-use Rattle.device.specs.declared.Sent.{Sent}
+use Rattle.device.specs.Sent.{Sent}
 use Rattle.area.specs.Loop.{loopOf}
 use Rattle.area.proofs.Areas.{sized}
 use Rattle.calls.specs.Calls.{hopAnswer}

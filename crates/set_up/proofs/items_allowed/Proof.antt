@@ -1,5 +1,5 @@
 -- Item by item: the test of all is that of the items that are left.
-use mathlib.Core.Path.{refl, sym, ap, _∙_}
+use mathlib.Core.Path.{refl, sym}
 use native.Mathlib.Omega.{arith}
 use lib.Seq.{length-take-le}
 use Rattle.record.specs.Sound.{allowed}
@@ -18,30 +18,29 @@ abbrev μ-loop : tie.MeasureT-loop
 loop-holds : tie.Need-loop-holds Inv-loop μ-loop
 loop-holds c = record { long = omega arith; same = refl }
 
-slice-aggregate-item-of : tie.Need-slice-aggregate-item-of Inv-loop μ-loop
-slice-aggregate-item-of c = let l = c .before .before .loop in sym
+slice-aggregate-item-allowed : tie.Need-slice-aggregate-item-allowed Inv-loop μ-loop
+slice-aggregate-item-allowed c = let l = c .before .before .loop in sym
     (length-take-le itemSize (l .rest .now) (omega (arith, l .inv .long)))
 
-item-of-requires : tie.Need-item-of-requires Inv-loop μ-loop
-item-of-requires c κs = let l = c .before .before .loop in length-take-le itemSize (l .rest .now)
+item-allowed-requires : tie.Need-item-allowed-requires Inv-loop μ-loop
+item-allowed-requires c κs = let l = c .before .before .loop in length-take-le itemSize (l .rest .now)
     (omega (arith, l .inv .long))
 
 returns : tie.Need-returns Inv-loop μ-loop
-returns c = let l = c .before .before .before .before .before .loop in
+returns c = let l = c .before .before .before .before .loop in
     fails allowed itemSize _ _ (l .left) (l .rest .now) _ (l .inv) (omega arith)
-    (c .before .item-allowed .ensures ∙ ap allowed (c .before .before .item-of .ensures)) (c .if1 .taken)
+    (c .before .item-allowed .ensures) (c .if1 .taken)
 
 sub-rest : tie.Need-sub-rest Inv-loop μ-loop
-sub-rest c = let l = c .before .before .before .before .before .loop in omega (arith, l .inv .long)
+sub-rest c = let l = c .before .before .before .before .loop in omega (arith, l .inv .long)
 
 part-rest-start : tie.Need-part-rest-start Inv-loop μ-loop
-part-rest-start c = let l = c .before .before .before .before .before .loop in omega (arith, l .inv .long)
+part-rest-start c = let l = c .before .before .before .before .loop in omega (arith, l .inv .long)
 
 loop-again : tie.Need-loop-again Inv-loop μ-loop
-loop-again c = let l = c .before .before .before .before .before .before .loop in
+loop-again c = let l = c .before .before .before .before .before .loop in
     next allowed itemSize _ _ (l .left) (l .rest .now) _ (l .inv) (omega arith)
-    (c .before .before .item-allowed .ensures ∙ ap allowed (c .before .before .before .item-of .ensures))
-    (c .before .if1 .left)
+    (c .before .before .item-allowed .ensures) (c .before .if1 .left)
 
 returns-2 : tie.Need-returns-2 Inv-loop μ-loop
 returns-2 c = let l = c .before .loop in ends allowed itemSize _ _ (l .left) (l .rest .now) (l .inv) (omega arith)
@@ -53,9 +52,8 @@ items-allowed-spec =
     Inv-loop
     μ-loop
     loop-holds
-    slice-aggregate-item-of
-    item-of-requires
-    (λ c κs. search needs)
+    slice-aggregate-item-allowed
+    item-allowed-requires
     returns
     sub-rest
     part-rest-start

@@ -1,13 +1,33 @@
--- `record::sound::item_allowed` meets its contract: the device judged is that of power-on.
-use mathlib.Core.Path.{ap, _∙_}
+-- `sound::item_allowed` meets its contract: at power-on only the item's values are left to test.
+use mathlib.Core.Path.{refl}
 use borrow.Author.Needs.{needs}
-use Rattle.record.specs.Sound.{soundDevice, allowed}
+use Rattle.device.specs.PowerOn.{powerOn}
+use Rattle.device.proofs.Bytes.{take-bytes}
+use Rattle.record.specs.Sound.{allowed}
+use Rattle.sound.proofs.Groups.{at-power-on}
 use Rattle.sound.proofs.item_allowed.Statement.{statement}
 use Rattle.sound.proofs.item_allowed.Tie as tie
 
 returns : tie.Need-returns
-unfolding allowed
-returns c = c .device-sound .ensures ∙ ap soundDevice (c .before .power-on .ensures)
+unfolding allowed powerOn
+returns c =
+    let z = c .before .before in
+    let s = z .before .before .before .before .before .before in
+    let item = s .args .item .now in
+    rw (c .abilities-allowed .ensures (powerOn item) refl, z .zero-past-length .ensures, take-bytes 8 4 item (search needs))
+    (at-power-on item)
 
 pub item-allowed-spec : {M : Type 1} → statement M
-item-allowed-spec = tie.close (tie.spec (λ c κs. search needs) (λ c κs. search needs) returns)
+item-allowed-spec =
+    tie.close
+    (tie.spec
+    (λ c. search needs)
+    (λ c. search needs)
+    (λ c. search needs)
+    (λ c. search needs)
+    (λ c. search needs)
+    (λ c. search needs)
+    (λ c κs. search needs)
+    (λ c. search needs)
+    (λ c κs. search needs)
+    returns)

@@ -1,0 +1,47 @@
+-- `commands::command` meets its contract: each command's arm is its rule, and no other command has one.
+use mathlib.Core.Path.{refl}
+use borrow.Author.Needs.{needs}
+use Rattle.frame.specs.declared.Kind.the-variants.{Lad, Unl, Tad, Unt, Ifc, Aau}
+use Rattle.frame.specs.Messages.{messages, firstIn, firstOf, codesIn, codesOf}
+use Rattle.device.specs.Choose.{choose}
+use Rattle.device.proofs.Arms.{arms}
+use Rattle.device.proofs.Dispatch.{listed, other, low-five}
+use Rattle.commands.proofs.command.Statement.{statement}
+use Rattle.commands.proofs.command.Tie as tie
+
+returns-7 : tie.Need-returns-7
+unfolding choose messages firstIn firstOf codesIn codesOf
+returns-7 c =
+    let k = c .before in
+    let s = k .before .before in
+    other 0x400 0x500 (k .kind-of .result) _ (s .args .frame) (k .kind-of .ensures) (s .pre .1 .first)
+    (s .pre .1 .past) (c .match .keys7) tt refl
+
+pub command-spec : {M : Type 1} → statement M
+unfolding choose messages firstIn firstOf codesIn codesOf
+command-spec =
+    tie.close
+    (tie.spec
+    (λ c. search needs)
+    (λ c κs. search needs)
+    (λ c. search needs)
+    (λ c κs. search needs)
+    (λ c. search needs)
+    (λ c κs. search needs)
+    (λ c. search needs)
+    (λ c κs. search needs)
+    (λ c. search needs)
+    (λ c κs. search needs)
+    (λ c. search needs)
+    (λ c κs. search needs)
+    (λ c. search needs)
+    (λ c κs. search needs)
+    (λ c. listed Lad _ _ (c .before .before .before .kind-of .ensures) (c .before .enum-told .given .1)
+    (rw (← low-five Lad _ (c .before .before .before .kind-of .ensures) (c .before .enum-told .given .1) refl) (search (arms, c .lad .ensures))))
+    (λ c. listed Unl _ _ (c .before .before .before .kind-of .ensures) (c .before .enum-told2 .given .1) (search (arms, c .listening .ensures)))
+    (λ c. listed Tad _ _ (c .before .before .before .kind-of .ensures) (c .before .enum-told3 .given .1)
+    (rw (← low-five Tad _ (c .before .before .before .kind-of .ensures) (c .before .enum-told3 .given .1) refl) (search (arms, c .tad .ensures))))
+    (λ c. listed Unt _ _ (c .before .before .before .kind-of .ensures) (c .before .enum-told4 .given .1) (search (arms, c .talking .ensures)))
+    (λ c. listed Ifc _ _ (c .before .before .before .kind-of .ensures) (c .before .enum-told5 .given .1) (search (arms, c .roles .ensures)))
+    (λ c. listed Aau _ _ (c .before .before .before .kind-of .ensures) (c .before .enum-told6 .given .1) (search (arms, c .aau .ensures)))
+    returns-7)

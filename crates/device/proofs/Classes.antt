@@ -1,0 +1,29 @@
+-- What a device does with the frames of a class: data or end below 0x400, identify from 0x600 on, and nothing past 2,047.
+use Prim.Native.Nat.{ℕ, _≤_, _<_}
+use mathlib.Core.Path.{_≡_}
+use native.Mathlib.Omega.{arith}
+use native.Mathlib.Decide.{decLt}
+use Rattle.frame.specs.Messages.{frames, messages, firstIn, firstOf, codesIn, codesOf}
+use Rattle.frame.proofs.Rows.{ranged, no-frame}
+use Rattle.device.specs.Choose.{choose}
+use Rattle.device.specs.Reply.{sends}
+use Rattle.device.specs.Data.{dataOrEnd, idy}
+use Rattle.device.specs.Take.{takes}
+use Rattle.device.specs.declared.Device.{Device}
+
+module _ (d : Device) (f : ℕ) where
+  pub data-frame : f < 0x400 → takes d f ≡ dataOrEnd d f
+  unfolding takes choose messages firstIn firstOf codesIn codesOf
+  data-frame h = go (decLt f 0x200)
+    where
+      go : Dec (f < 0x200) → takes d f ≡ dataOrEnd d f
+      go (yes k) = rw (← ranged 1 f (omega arith) (omega arith))
+      go (no k) = rw (← ranged 2 f (omega arith) (omega arith))
+
+  pub idy-frame : 0x600 ≤ f → f < frames → takes d f ≡ idy d f
+  unfolding takes choose messages firstIn firstOf codesIn codesOf
+  idy-frame l h = rw (← ranged 42 f (omega arith) (omega arith))
+
+  pub past-frames : frames ≤ f → takes d f ≡ sends d f
+  unfolding takes choose
+  past-frames h = rw (no-frame f h)

@@ -1,0 +1,12 @@
+-- The classes of frames that a device tells apart by their control bits C3 C2 C1 (001, Message table).
+use Prim.Native.Nat.{ℕ, _≤_, _<_}
+
+-- a command: 100
+pub record IsCommand (f : ℕ) : Type 0 where
+  pub first : 0x400 ≤ f
+  pub past : f < 0x500
+
+-- a ready frame: 101
+pub record IsReady (f : ℕ) : Type 0 where
+  pub first : 0x500 ≤ f
+  pub past : f < 0x600

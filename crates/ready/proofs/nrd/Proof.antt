@@ -1,0 +1,15 @@
+-- `ready::nrd` meets its contract: each return follows from the tests on its way.
+use borrow.Author.Needs.{needs}
+use Rattle.device.specs.Ready.{nrd}
+use Rattle.device.proofs.Arms.{arms}
+use Rattle.ready.proofs.nrd.Statement.{statement}
+use Rattle.ready.proofs.nrd.Tie as tie
+
+pub nrd-spec : {M : Type 1} → statement M
+unfolding nrd
+nrd-spec =
+    tie.close
+    (tie.spec
+    (λ c κs. search needs)
+    (λ c. search (arms, c .noting .ensures))
+    (λ c. search arms))

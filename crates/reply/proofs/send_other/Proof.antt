@@ -1,0 +1,28 @@
+-- `reply::send_other` meets its contract: the frame is kept and counted, and goes out.
+use borrow.Author.Needs.{needs}
+use Rattle.device.specs.Reply.{sendsOther}
+use Rattle.device.proofs.Arms.{sends-on}
+use Rattle.record.specs.Record.{deviceOf}
+use Rattle.reply.proofs.send_other.Statement.{statement}
+use Rattle.reply.proofs.send_other.Tie as tie
+
+returns : tie.Need-returns
+unfolding sendsOther
+returns c =
+    let m = c .before .before .before in
+    let b = m .before in
+    let d = deviceOf (b .before .before .args .rec .now) in
+    rw (← b .other-byte .ensures, ← m .marked .ensures d)
+    (sends-on (m .marked .result) (c .sends .ensures d) (c .before .counting .ensures d))
+
+pub send-other-spec : {M : Type 1} → statement M
+send-other-spec =
+    tie.close
+    (tie.spec
+    (λ c κs. search needs)
+    (λ c. search needs)
+    (λ c κs. search needs)
+    (λ c. search needs)
+    (λ c κs. search needs)
+    (λ c κs. search needs)
+    returns)

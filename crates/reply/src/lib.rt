@@ -1,0 +1,116 @@
+// The replies of a talker (01, What a device does with a frame, from "Reply bytes are DAB").
+use device::Device;
+use record::ACCESSORY;
+use record::ID_LENGTH;
+use record::LOAD_LENGTH;
+use record::STATUS;
+use record::read::id_at;
+use record::read::load_at;
+use state::Passed;
+use state::State;
+use state::sends;
+ghost use mathlib.Core.Path.{_≡_};
+ghost use Prim.Native.Nat.{_<_};
+ghost use lib.ListN.{length};
+ghost use Rattle.device.specs.Reply.{marked, stops, dataFrame, otherByte, otherLength, sendsData, sendsOther};
+ghost use Rattle.device.specs.Reply.{continues};
+ghost use Rattle.device.specs.declared.Device.{Device};
+ghost use Rattle.record.specs.Record.{recordSize};
+ghost use Rattle.state.specs.State.{with, inRecord, sentWith, sentFrom};
+
+pub const ETO: u16 = 0x540;
+
+pub const ETE: u16 = 0x541;
+
+// The control bits C1 and C2.
+pub const C1: u16 = 0x100;
+
+pub const C2: u16 = 0x200;
+
+// C1 is set where service is asked for, and never cleared.
+pub fn marked(state: State, frame: u16) -> u16
+    ensures { λ r. ⌜ ((d : Device) → r ≡ marked (with d state) frame) ⌝ }
+{
+    if state.service == Device::ASKING {
+        if frame / C1 % 2 == 1 {
+            return frame;
+        }
+        return frame + C1;
+    }
+    frame
+}
+
+// To state 1 with the answer, ETO or ETE.
+pub fn stops(state: State, answer: u16) -> Passed
+    ensures { λ r. ⌜ ((d : Device) → sentWith d r ≡ stops (with d state) answer) ⌝ }
+{
+    sends(state.talking(Device::ADDRESSED), answer)
+}
+
+fn data_frame(state: State, rec: &[u8]) -> u16
+    requires { ⌜ (length (now rec) ≡ recordSize) × (state .sent < 255) ⌝ }
+    ensures { λ r. ⌜ r ≡ dataFrame (inRecord (now (rec .entry)) state) ⌝ }
+{
+    let byte = load_at(rec, state.sent) as u16;
+    if state.sent + 1 == rec[LOAD_LENGTH] {
+        return marked(state, byte + C2);
+    }
+    marked(state, byte)
+}
+
+fn other_byte(state: State, rec: &[u8]) -> u8
+    requires { ⌜ length (now rec) ≡ recordSize ⌝ }
+    ensures { λ r. ⌜ r ≡ otherByte (inRecord (now (rec .entry)) state) ⌝ }
+{
+    if state.talker == Device::SENDING_STATUS {
+        return rec[STATUS];
+    }
+    if state.talker == Device::SENDING_DEVICE_ID {
+        return id_at(rec, state.replied);
+    }
+    rec[ACCESSORY]
+}
+
+fn other_length(state: State, rec: &[u8]) -> u8
+    requires { ⌜ length (now rec) ≡ recordSize ⌝ }
+    ensures { λ r. ⌜ r ≡ otherLength (inRecord (now (rec .entry)) state) ⌝ }
+{
+    if state.talker == Device::SENDING_DEVICE_ID {
+        return rec[ID_LENGTH];
+    }
+    1
+}
+
+fn send_data(state: State, rec: &[u8]) -> Passed
+    requires { ⌜ (length (now rec) ≡ recordSize) × (state .sent < 255) ⌝ }
+    ensures { λ r. ⌜ sentFrom (now (rec .entry)) r ≡ sendsData (inRecord (now (rec .entry)) state) ⌝ }
+{
+    let frame = data_frame(state, rec);
+    sends(state.counting(frame, state.sent + 1, state.replied), frame)
+}
+
+fn send_other(state: State, rec: &[u8]) -> Passed
+    requires { ⌜ (length (now rec) ≡ recordSize) × (state .replied < 255) ⌝ }
+    ensures { λ r. ⌜ sentFrom (now (rec .entry)) r ≡ sendsOther (inRecord (now (rec .entry)) state) ⌝ }
+{
+    let byte = other_byte(state, rec) as u16;
+    let frame = marked(state, byte);
+    sends(state.counting(frame, state.sent, state.replied + 1), frame)
+}
+
+// The next byte of the reply, or ETO if nothing is left.
+pub fn continues(state: State, rec: &[u8]) -> Passed
+    requires { ⌜ length (now rec) ≡ recordSize ⌝ }
+    ensures { λ r. ⌜ sentFrom (now (rec .entry)) r ≡ continues (inRecord (now (rec .entry)) state) ⌝ }
+{
+    if state.talker == Device::SENDING_DATA {
+        if state.sent < rec[LOAD_LENGTH] {
+            return send_data(state, rec);
+        }
+        return stops(state, ETO);
+    }
+    if state.replied < other_length(state, rec) {
+        return send_other(state, rec);
+    }
+    stops(state, ETO)
+}

@@ -1,0 +1,87 @@
+-- The clauses in groups are all the clauses; and what a group that was passed, or failed, says of all.
+use Prim.Native.Nat.{ℕ}
+use mathlib.Core.Path.{_≡_, refl, ap}
+use mathlib.Core.Bool.{Bool, true, false, _&&_}
+use mathlib.Core.List.{List}
+use lib.Dec.{eqb, leb}
+use lib.ListN.{getD, take, drop}
+use borrow.Author.Tests.{eq-eqb}
+use Rattle.device.specs.Device.{sendingData}
+use Rattle.device.specs.PowerOn.{bytesFrom, powerOn}
+use Rattle.device.specs.declared.Device.{Device}
+use Rattle.record.specs.Record.{deviceOf, zeros}
+use Rattle.record.specs.Sound.{only, inRange, zeroPast, serviceWithStatus, unaddressWithBoth, unconfiguredFixed}
+use Rattle.record.specs.Sound.{configuredAble, listenerAble, serviceAble, sendingAble, addressedAble, dataAble}
+use Rattle.record.specs.Sound.{repliedRight, quietOutside, lastBelow, soundDevice, soundRecord}
+use Rattle.record.proofs.Both.{left, right, both-true}
+use Rattle.sound.specs.Groups.{abilitiesAllowed, ableAll, talkerRight, dataRight, stateRight}
+
+-- two tests are equal where each follows from the other
+same : (a b : Bool) → (a ≡ true → b ≡ true) → (b ≡ true → a ≡ true) → a ≡ b
+same true true f g = refl
+same true false f g = let z = f refl in cc
+same false true f g = let z = g refl in cc
+same false false f g = refl
+
+regrouped : (p q i z s u f c l v t : Bool) →
+    (p && (q && (i && (z && (s && (u && (f && (c && (l && (v && t)))))))))) ≡
+    (((p && q) && i) && (z && (((s && u) && ((f && c) && (l && v))) && t)))
+regrouped true true true true true true true true true v t = refl
+regrouped true true true true true true true true false v t = refl
+regrouped true true true true true true true false l v t = refl
+regrouped true true true true true true false c l v t = refl
+regrouped true true true true true false f c l v t = refl
+regrouped true true true true false u f c l v t = refl
+regrouped true true true false s u f c l v t = refl
+regrouped true true false z s u f c l v t = refl
+regrouped true false i z s u f c l v t = refl
+regrouped false q i z s u f c l v t = refl
+
+pub grouped : (b : List ℕ) →
+    let d = deviceOf b in
+    soundRecord b ≡
+    (((eqb (getD b 7 0) 0 && zeros (take 7 (drop 17 b))) && inRange d) &&
+    (zeroPast d && (ableAll d && talkerRight d)))
+unfolding soundRecord soundDevice
+grouped b =
+    let d = deviceOf b in
+    regrouped (eqb (getD b 7 0) 0) (zeros (take 7 (drop 17 b))) (inRange d) (zeroPast d) (serviceWithStatus d)
+    (unaddressWithBoth d) (unconfiguredFixed d) (configuredAble d) (listenerAble d) (serviceAble d) (talkerRight d)
+
+-- the talker's clauses, parted
+parted : (s a d w o r q l : Bool) →
+    (s && (a && (d && ((w && o) && (r && (q && l)))))) ≡ ((d && (w && l)) && (s && (a && (o && (r && q)))))
+parted s a d w o r q l = same _ _ (λ h. search (left, right, both-true)) (λ h. search (left, right, both-true))
+
+pub talker-parted : (d : Device) → talkerRight d ≡ (dataRight d && stateRight d)
+talker-parted d =
+    parted (sendingAble d) (addressedAble d) (dataAble d) (leb (d .sent) (d .loadlength))
+    (only (eqb (d .talker) sendingData) (leb 1 (d .sent))) (repliedRight d) (quietOutside d) (lastBelow d)
+
+pub passed : {a b r x : Bool} → r ≡ a → r ≡ true → x ≡ b → x ≡ (a && b)
+passed e t h = rw (← e, t) h
+
+pub failed : {a r : Bool} (b : Bool) → r ≡ a → r ≡ false → false ≡ (a && b)
+failed b e t = rw (← e, t)
+
+pub ruleset chain = (passed, failed)
+
+-- at power-on only the item's values are left to test
+pub at-power-on : (item : List ℕ) →
+    let d = powerOn item in
+    (leb (d .fixed) 31 && (leb (d .idlength) 8 && (zeros (drop (d .idlength) (d .id)) && abilitiesAllowed d))) ≡
+    soundDevice d
+unfolding soundDevice powerOn zeros
+at-power-on item =
+    go (leb (getD item 1 0) 31) (leb (getD item 3 0) 8) (zeros (drop (getD item 3 0) (bytesFrom 4 8 item)))
+    (serviceWithStatus (powerOn item)) (unaddressWithBoth (powerOn item)) (eqb (getD item 1 0) (getD item 1 0))
+    (eq-eqb (getD item 1 0) (getD item 1 0) refl)
+  where
+    go : (f i z s u e : Bool) → e ≡ true →
+        (f && (i && (z && (s && u)))) ≡ ((f && (f && (i && true))) && ((z && true) && (s && (u && (e && true)))))
+    go true true true true true e h = rw h
+    go true true true true false e h = refl
+    go true true true false u e h = refl
+    go true true false s u e h = refl
+    go true false z s u e h = refl
+    go false i z s u e h = refl

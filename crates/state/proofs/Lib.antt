@@ -1,0 +1,2 @@
+-- A state written back.
+pub mod Laws

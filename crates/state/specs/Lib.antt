@@ -1,0 +1,2 @@
+-- What a frame can alter of a device.
+pub mod State

@@ -1,0 +1,2 @@
+-- A frame taken in a record.
+pub mod InPlace

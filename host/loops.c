@@ -1,0 +1,105 @@
+/* Idle and busy loops of 15 devices, for measuring. */
+#include "loops.h"
+
+#include "model.h"
+
+#include <string.h>
+
+enum {
+    STATUS = 0x40,
+    ACCESSORY = 0x50,
+    MIDDLE = LOOP_DEVICES / 2
+};
+
+void idle_loop(uint8_t *area)
+{
+    uint8_t items[PIL_ITEMS_LENGTH(LOOP_DEVICES)] = {0};
+
+    for (unsigned i = 0; i < LOOP_DEVICES; i++) {
+        items[PIL_ITEMS_LENGTH(i) + PIL_ITEM_ABILITIES] = 0xff;
+        items[PIL_ITEMS_LENGTH(i) + PIL_ITEM_FIXED] = PIL_NO_ADDRESS;
+    }
+    model_set_up(area, LOOP_LENGTH, items, sizeof items);
+}
+
+void fill_link(uint8_t *area, unsigned link, unsigned frames, unsigned first, unsigned step)
+{
+    uint8_t *at = area + PIL_LINK_AT(LOOP_DEVICES, link);
+
+    memset(at, 0, PIL_LINK_LENGTH);
+    at[PIL_LINK_COUNT] = (uint8_t)frames;
+    for (unsigned k = 0; k < frames; k++) {
+        unsigned frame = first + k * step;
+
+        at[PIL_LINK_FRAMES + 2 * k] = (uint8_t)frame;
+        at[PIL_LINK_FRAMES + 2 * k + 1] = (uint8_t)(frame >> 8);
+    }
+}
+
+/* The byte that a device in a sending state sent last, else 0. */
+static uint8_t last_sent(const uint8_t *r)
+{
+    switch (r[PIL_RECORD_TALKER]) {
+    case PIL_TALKER_DATA: return r[PIL_RECORD_DATA + r[PIL_RECORD_SENT] - 1];
+    case PIL_TALKER_STATUS: return r[PIL_RECORD_STATUS];
+    case PIL_TALKER_ID: return r[PIL_RECORD_ID + r[PIL_RECORD_REPLY_SENT] - 1];
+    case PIL_TALKER_ACCESSORY: return r[PIL_RECORD_ACCESSORY];
+    default: return 0;
+    }
+}
+
+void full_record(uint8_t *record, unsigned address, unsigned talker)
+{
+    memset(record, 0, PIL_RECORD_LENGTH);
+    record[PIL_RECORD_ABILITIES] = 0xff;
+    record[PIL_RECORD_FIXED] = record[PIL_RECORD_ADDRESS] = (uint8_t)address;
+    record[PIL_RECORD_CONFIGURED] = 1;
+    record[PIL_RECORD_TALKER] = (uint8_t)talker;
+    record[PIL_RECORD_STATUS] = STATUS;
+    record[PIL_RECORD_ACCESSORY] = ACCESSORY;
+    record[PIL_RECORD_ID_LENGTH] = PIL_MOST_ID;
+    record[PIL_RECORD_DATA_LENGTH] = PIL_MOST_DATA;
+    record[PIL_RECORD_SENT] = PIL_MOST_DATA / 2;
+    for (unsigned k = 0; k < PIL_MOST_ID + PIL_MOST_DATA; k++)
+        record[PIL_RECORD_ID + k] = (uint8_t)(LOOP_FIRST_BYTE + k);
+    if (talker > PIL_TALKER_DATA)
+        record[PIL_RECORD_REPLY_SENT] = talker == PIL_TALKER_ID ? PIL_MOST_ID / 2 : 1;
+    record[PIL_RECORD_LAST] = last_sent(record);
+}
+
+/* ID and data count up, so the bytes that come back to a device count up from the one that it sent last. */
+static void busy_loop_with_tail(uint8_t *area, unsigned in_tail)
+{
+    idle_loop(area);
+    for (unsigned i = 0; i < LOOP_DEVICES; i++) {
+        uint8_t *record = area + PIL_RECORD_AT(i);
+
+        full_record(record, i, i % LOOP_TALKER_STATES);
+        record[PIL_RECORD_SERVICE] = (uint8_t)(i / 5 % (PIL_SERVICE_POLLED + 1));
+        fill_link(area, i, PIL_LINK_DEPTH, record[PIL_RECORD_LAST], 1);
+    }
+    fill_link(area, LOOP_DEVICES, in_tail, LOOP_FIRST_BYTE, 1);
+}
+
+void busy_loop(uint8_t *area)
+{
+    busy_loop_with_tail(area, PIL_LINK_DEPTH);
+}
+
+void busy_loop_to_hop(uint8_t *area)
+{
+    busy_loop_with_tail(area, PIL_LINK_DEPTH - 1);
+}
+
+void busy_loop_to_drain(uint8_t *area)
+{
+    busy_loop_with_tail(area, 0);
+}
+
+void talker_loop(uint8_t *area)
+{
+    idle_loop(area);
+    for (unsigned i = 0; i < LOOP_DEVICES; i++)
+        full_record(area + PIL_RECORD_AT(i), i, i == MIDDLE ? PIL_TALKER_ADDRESSED : PIL_TALKER_IDLE);
+    area[PIL_RECORD_AT(MIDDLE) + PIL_RECORD_SENT] = 0;
+}

@@ -1,0 +1,33 @@
+/* The loops of 15 devices that bench, count and stack measure on, made without a call of libpil: idle ones, and busy
+   ones with full records in every talker state. */
+#ifndef LOOPS_H
+#define LOOPS_H
+
+#include "pil.h"
+
+enum {
+    LOOP_DEVICES = PIL_MOST_DEVICES,
+    LOOP_LENGTH = PIL_AREA_LENGTH(LOOP_DEVICES), /* bytes of each area here */
+    LOOP_TALKER_STATES = PIL_TALKER_ACCESSORY + 1,
+    LOOP_FIRST_BYTE = 0xb8, /* a full record's ID and data, which stand together, count up from this byte .. */
+    LOOP_LAST_BYTE = LOOP_FIRST_BYTE + PIL_MOST_ID + PIL_MOST_DATA - 1 /* .. to this one */
+};
+
+/* Devices at power-on with every ability and no address; links empty. */
+void idle_loop(uint8_t *area);
+/* Makes the link hold that many frames, the first and then each by the step more than the one before. */
+void fill_link(uint8_t *area, unsigned link, unsigned frames, unsigned first, unsigned step);
+
+/* A record with every ability, configured at the address, ID and data of full length and half sent; no listener. */
+void full_record(uint8_t *record, unsigned address, unsigned talker);
+/* Full records, device i in talker state i % 6, service mixed; every link holds four data bytes, and each byte that
+   comes to a sending device is its own, undamaged. */
+void busy_loop(uint8_t *area);
+/* The same with one place free in the tail: from the highest device down, each can hop once. */
+void busy_loop_to_hop(uint8_t *area);
+/* The same with an empty tail: 60 hops are possible, the highest device's first. */
+void busy_loop_to_drain(uint8_t *area);
+/* Full records of idle devices, but one in the middle is addressed to talk and has sent nothing; links empty. */
+void talker_loop(uint8_t *area);
+
+#endif

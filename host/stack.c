@@ -1,0 +1,230 @@
+/* The stack that libpil's hop and drain take, and the model's: each call runs on a painted stack, which shows the
+   deepest byte touched and copies of a record. Use: stack [HOP DRAIN]; exit 1: libpil exceeds a limit or copies. */
+#include "loops.h"
+#include "model.h"
+
+#include <stdio.h>
+#include <stdlib.h>
+#include <string.h>
+
+enum {
+    PIL, MODEL,
+    DEEP = 4096, /* bytes of the painted stack */
+    PAINT = 0xa5,
+    COPY = 16,   /* so many bytes of an ID or data in a row are a copy */
+    ADDRESS = 5,
+    HOPPER = LOOP_DEVICES - 1, /* the device that hops */
+    RECORDS = LOOP_TALKER_STATES * 3 * 2 * 2 * 2 * 2 /* numbers for make_record */
+};
+
+typedef void function(void);
+
+static _Alignas(16) uint8_t stack[DEEP];
+static uint8_t ready[LOOP_LENGTH], area[LOOP_LENGTH];
+
+/* What is measured. A refused hop shows what the test of soundness leaves, which a hop may write over. */
+static const struct call {
+    const char *name;
+    function *of[2];
+    uint64_t number; /* the device, or the budget */
+    unsigned frames; /* how many are tried */
+    unsigned left;   /* frames that it leaves in the link to the device */
+} calls[] = {
+    {"hop", {(function *)pil_hop, (function *)model_hop}, HOPPER, PIL_FRAMES, 0},
+    {"drain", {(function *)pil_drain, (function *)model_drain}, UINT64_MAX, PIL_FRAMES, 0},
+    {"hop refused with 3", {(function *)pil_hop, (function *)model_hop}, LOOP_DEVICES, 1, 1},
+};
+
+enum { HOP, DRAIN, CALLS = sizeof calls / sizeof *calls };
+
+/* The most that a call took or copied, and where it first did. */
+struct most {
+    unsigned bytes, frame, talker;
+};
+
+static struct most deepest[CALLS][2], copied[CALLS][2];
+
+/* One call on the painted stack. */
+
+/* Calls of(area, length, number) with the stack pointer at the stack's end: all that is written below it, the return
+   address first, is the call's. The painted stack is not the one in use, so nothing else lives there. */
+__attribute__((noinline)) static void call_on_stack(function *of, uint64_t number)
+{
+    uint8_t *first = area;
+    size_t length = sizeof area;
+
+    __asm__ volatile("mov %%rsp, %%rbx\n\t"
+                     "mov %[end], %%rsp\n\t"
+                     "call *%[of]\n\t"
+                     "mov %%rbx, %%rsp"
+                     : "+D"(first), "+S"(length), "+d"(number)
+                     : [end] "r"(stack + DEEP), [of] "r"(of)
+                     : "rax", "rbx", "rcx", "r8", "r9", "r10", "r11", "cc", "memory", "xmm0", "xmm1", "xmm2", "xmm3",
+                       "xmm4", "xmm5", "xmm6", "xmm7", "xmm8", "xmm9", "xmm10", "xmm11", "xmm12", "xmm13", "xmm14",
+                       "xmm15");
+}
+
+/* Bytes from the deepest one touched to the stack's end. */
+static unsigned touched(void)
+{
+    static const uint8_t paint[8] = {PAINT, PAINT, PAINT, PAINT, PAINT, PAINT, PAINT, PAINT};
+    unsigned place = 0;
+
+    while (place < DEEP && memcmp(stack + place, paint, sizeof paint) == 0)
+        place += sizeof paint;
+    while (place < DEEP && stack[place] == PAINT)
+        place++;
+    return DEEP - place;
+}
+
+/* The longest row of bytes of a record's ID and data among those touched. There each byte is one more than the last. */
+static unsigned longest_copy(unsigned depth)
+{
+    unsigned row = 0, longest = 0;
+
+    for (unsigned place = DEEP - depth; place < DEEP; place++) {
+        if (stack[place] < LOOP_FIRST_BYTE || stack[place] > LOOP_LAST_BYTE)
+            row = 0;
+        else
+            row = row > 0 && stack[place] == stack[place - 1] + 1 ? row + 1 : 1;
+        if (row > longest)
+            longest = row;
+    }
+    return longest;
+}
+
+static void note(struct most *most, unsigned bytes, unsigned frame)
+{
+    if (bytes > most->bytes)
+        *most = (struct most){bytes, frame, ready[PIL_RECORD_AT(HOPPER) + PIL_RECORD_TALKER]};
+}
+
+static void must(int holds, const char *what, unsigned which, unsigned frame)
+{
+    if (holds)
+        return;
+    printf("%s, frame %03x: %s\n", calls[which].name, frame, what);
+    exit(1);
+}
+
+static void measure(unsigned which, int side, unsigned frame)
+{
+    const struct call *c = &calls[which];
+    unsigned depth;
+
+    memcpy(area, ready, sizeof area);
+    memset(stack, PAINT, sizeof stack);
+    call_on_stack(c->of[side], c->number);
+    depth = touched();
+    must(depth < DEEP, "deeper than the painted stack", which, frame);
+    must(area[PIL_LINK_AT(LOOP_DEVICES, HOPPER) + PIL_LINK_COUNT] == c->left, "not answered as it must be", which,
+         frame);
+    note(&deepest[which][side], depth, frame);
+    note(&copied[which][side], longest_copy(depth), frame);
+}
+
+/* The cases. */
+
+static unsigned digit(unsigned *number, unsigned base)
+{
+    unsigned lowest = *number % base;
+
+    *number /= base;
+    return lowest;
+}
+
+static void all_sent(uint8_t *r)
+{
+    r[PIL_RECORD_SENT] = PIL_MOST_DATA;
+    if (r[PIL_RECORD_TALKER] == PIL_TALKER_ID)
+        r[PIL_RECORD_REPLY_SENT] = PIL_MOST_ID;
+}
+
+/* A full record in each of the states that a frame can meet, by number; gives 0 if a lower number has made the same.
+   Configured devices have bytes left to send, the others none. */
+static int make_record(uint8_t *r, unsigned number, unsigned frame)
+{
+    unsigned last;
+
+    full_record(r, ADDRESS, digit(&number, LOOP_TALKER_STATES));
+    r[PIL_RECORD_SERVICE] = (uint8_t)digit(&number, PIL_SERVICE_POLLED + 1);
+    r[PIL_RECORD_LISTENER] = (uint8_t)digit(&number, 2);
+    r[PIL_RECORD_CONFIGURED] = (uint8_t)digit(&number, 2);
+    if (!r[PIL_RECORD_CONFIGURED])
+        all_sent(r);
+    if (r[PIL_RECORD_TALKER] < PIL_TALKER_DATA)
+        return number == 0;
+    r[PIL_RECORD_NRD] = (uint8_t)digit(&number, 2);
+    last = (frame ^ digit(&number, 2)) & (PIL_C2 | PIL_C1 | PIL_DATA_BITS);
+    r[PIL_RECORD_LAST] = (uint8_t)last;
+    r[PIL_RECORD_LAST + 1] = (uint8_t)(last >> 8);
+    return 1;
+}
+
+static void try_case(unsigned number, unsigned frame)
+{
+    uint8_t record[PIL_RECORD_LENGTH];
+
+    if (!make_record(record, number, frame))
+        return;
+    for (unsigned i = 0; i < LOOP_DEVICES; i++)
+        memcpy(ready + PIL_RECORD_AT(i), record, sizeof record);
+    fill_link(ready, HOPPER, 1, frame, 0);
+    for (unsigned which = 0; which < CALLS; which++)
+        for (int side = PIL; frame < calls[which].frames && side <= MODEL; side++)
+            measure(which, side, frame);
+}
+
+/* The report. */
+
+static void print_deepest(void)
+{
+    printf("Bytes of stack from the call on, return address included; the first frame and talker state with so many.\n"
+           "%-20s%8s%24s\n", "", "libpil", "model");
+    for (unsigned which = 0; which < CALLS; which++) {
+        printf("%-20s", calls[which].name);
+        for (int side = PIL; side <= MODEL; side++)
+            printf("%8u (%03x, talker %u)", deepest[which][side].bytes, deepest[which][side].frame,
+                   deepest[which][side].talker);
+        printf("\n");
+    }
+}
+
+static int within(unsigned which, const char *limit)
+{
+    if (deepest[which][PIL].bytes <= strtoul(limit, NULL, 0))
+        return 1;
+    printf("%s: libpil takes %u bytes of stack, more than %s\n", calls[which].name, deepest[which][PIL].bytes, limit);
+    return 0;
+}
+
+static int no_copy(unsigned which)
+{
+    const struct most *most = &copied[which][PIL];
+
+    if (most->bytes < COPY)
+        return 1;
+    printf("%s: libpil copies %u bytes of a record to the stack (frame %03x, talker %u)\n", calls[which].name,
+           most->bytes, most->frame, most->talker);
+    return 0;
+}
+
+int main(int argc, char **argv)
+{
+    int well = 1;
+
+    if (argc != 1 && argc != 3) {
+        fprintf(stderr, "use: stack [HOP DRAIN]\n");
+        return 3;
+    }
+    idle_loop(ready);
+    for (unsigned number = 0; number < RECORDS; number++)
+        for (unsigned frame = 0; frame < PIL_FRAMES; frame++)
+            try_case(number, frame);
+    print_deepest();
+    for (unsigned which = 0; which < CALLS; which++)
+        well &= no_copy(which);
+    if (argc == 3)
+        well &= within(HOP, argv[1]) & within(DRAIN, argv[2]);
+    return well ? 0 : 1;
+}
