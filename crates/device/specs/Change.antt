@@ -42,19 +42,19 @@ last = 14
 abbrev pub replied : ℕ
 replied = 16
 
--- a value, and what becomes of it
+-- a value, by its place, and what becomes of it
 pub record Edit : Type 0 where
-  pub value : ℕ
+  pub place : ℕ
   pub new : ℕ
 
 infix 70 _becomes_
 abbrev pub _becomes_ : ℕ → ℕ → Edit
-v becomes n = record { value = v; new = n }
+p becomes x = record { place = p; new = x }
 
--- what becomes of the value v: its edit, or else what it was
-abbrev pub after : List Edit → (v old : ℕ) → ℕ
-after [] v old = old
-after (e ∷ es) v old = cond (eqb (e .value) v) (e .new) (after es v old)
+-- what becomes of the value at a place: its edit, or else what it was
+abbrev pub after : List Edit → (place old : ℕ) → ℕ
+after [] p old = old
+after (e ∷ es) p old = cond (eqb (e .place) p) (e .new) (after es p old)
 
 -- the device with these edits, and with this data
 abbrev pub remade : Device → List Edit → List ℕ → Device

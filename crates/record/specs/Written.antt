@@ -11,9 +11,9 @@ use Rattle.record.specs.Record.{recordSize, deviceOf, recordOf}
 -- a value is the byte at its place; the last frame sent is two bytes, little-endian
 abbrev pub stored : Edit → List ℕ → List ℕ
 stored e b =
-    cond (eqb (e .value) last)
+    cond (eqb (e .place) last)
     (set (set b last (e .new % 256)) (suc last) (e .new / 256))
-    (set b (e .value) (e .new))
+    (set b (e .place) (e .new))
 
 abbrev pub written : List Edit → List ℕ → List ℕ
 written [] b = b
