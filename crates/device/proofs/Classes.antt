@@ -1,4 +1,5 @@
--- What a device does with the frames of a class: data or end below 0x400, identify from 0x600 on, and nothing past 2,047.
+-- What a device does with the frames of a class: data or end below 0x400, identify from 0x600 on, nothing past
+-- 2,047.
 use Prim.Native.Nat.{ℕ, _≤_, _<_}
 use mathlib.Core.Path.{_≡_}
 use native.Mathlib.Omega.{arith}

@@ -61,7 +61,8 @@ fn hop_answer(passed: Passed) -> HopAnswer
 // Device i takes a frame in its record.
 fn take_at(area: &mut [u8], i: usize, frame: u16) -> Passed
     requires { ⌜ HasDevice (now area) i ⌝ }
-    ensures { λ r. ⌜ sentWith (device (loopOf (now (area .entry))) i) r ≡ sentBy i frame (loopOf (now (area .entry))) ⌝ }
+    ensures { λ r. ⌜ sentWith (device (loopOf (now (area .entry))) i) r ≡
+        sentBy i frame (loopOf (now (area .entry))) ⌝ }
     ensures { λ r. ⌜ Holds (now (area .exit))
         (setDevice i (sentBy i frame (loopOf (now (area .entry))) .device) (loopOf (now (area .entry)))) ⌝ }
 {
@@ -72,7 +73,8 @@ fn take_at(area: &mut [u8], i: usize, frame: u16) -> Passed
 // Device i takes a frame, its oldest, and sends one, for which there is room.
 fn pass_on(area: &mut [u8], i: usize, frame: u16, behind: usize) -> Passed
     requires { ⌜ Passes (now area) i frame behind ⌝ }
-    ensures { λ r. ⌜ sentWith (device (loopOf (now (area .entry))) i) r ≡ sentBy i frame (loopOf (now (area .entry))) ⌝ }
+    ensures { λ r. ⌜ sentWith (device (loopOf (now (area .entry))) i) r ≡
+        sentBy i frame (loopOf (now (area .entry))) ⌝ }
     ensures { λ r. ⌜ Holds (now (area .exit)) (passed i frame (loopOf (now (area .entry)))) ⌝ }
 {
     let passed = take_at(area, i, frame);

@@ -1,5 +1,5 @@
--- What it is to make a local call in a record: the device's answer, and its record afterwards; a refused call leaves the
--- record as it was.
+-- What it is to make a local call in a record: the device's answer, and its record afterwards. A refused call leaves
+-- the record as it was.
 use Prim.Native.Nat.{ℕ}
 use mathlib.Core.Path.{_≡_}
 use mathlib.Core.Bool.{cond}

@@ -66,7 +66,8 @@ pub fn load(rec: &mut [u8], bytes: &[u8]) -> u8
 // Set status.
 pub fn status(rec: &mut [u8], status: u8) -> u8
     requires { ⌜ IsRecord (now rec) ⌝ }
-    ensures { λ r. ⌜ InPlace (now (rec .entry)) (setsStatus (deviceOf (now (rec .entry))) status) r (now (rec .exit)) ⌝ }
+    ensures { λ r. ⌜ InPlace (now (rec .entry)) (setsStatus (deviceOf (now (rec .entry))) status) r
+        (now (rec .exit)) ⌝ }
 {
     if has(rec, Device::STATUS) {
         rec[STATUS] = status;

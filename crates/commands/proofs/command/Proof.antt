@@ -36,12 +36,19 @@ command-spec =
     (λ c κs. search needs)
     (λ c. search needs)
     (λ c κs. search needs)
-    (λ c. listed Lad _ _ (c .before .before .before .kind-of .ensures) (c .before .enum-told .given .1)
-    (rw (← low-five Lad _ (c .before .before .before .kind-of .ensures) (c .before .enum-told .given .1) refl) (search (arms, c .lad .ensures))))
-    (λ c. listed Unl _ _ (c .before .before .before .kind-of .ensures) (c .before .enum-told2 .given .1) (search (arms, c .listening .ensures)))
-    (λ c. listed Tad _ _ (c .before .before .before .kind-of .ensures) (c .before .enum-told3 .given .1)
-    (rw (← low-five Tad _ (c .before .before .before .kind-of .ensures) (c .before .enum-told3 .given .1) refl) (search (arms, c .tad .ensures))))
-    (λ c. listed Unt _ _ (c .before .before .before .kind-of .ensures) (c .before .enum-told4 .given .1) (search (arms, c .talking .ensures)))
-    (λ c. listed Ifc _ _ (c .before .before .before .kind-of .ensures) (c .before .enum-told5 .given .1) (search (arms, c .roles .ensures)))
-    (λ c. listed Aau _ _ (c .before .before .before .kind-of .ensures) (c .before .enum-told6 .given .1) (search (arms, c .aau .ensures)))
+    (λ c. let t = c .before in let k = t .before .before .kind-of .ensures in
+    listed Lad _ _ k (t .enum-told .given .1)
+    (rw (← low-five Lad _ k (t .enum-told .given .1) refl) (search (arms, c .lad .ensures))))
+    (λ c. let t = c .before in
+    listed Unl _ _ (t .before .before .kind-of .ensures) (t .enum-told2 .given .1)
+    (search (arms, c .listening .ensures)))
+    (λ c. let t = c .before in let k = t .before .before .kind-of .ensures in
+    listed Tad _ _ k (t .enum-told3 .given .1)
+    (rw (← low-five Tad _ k (t .enum-told3 .given .1) refl) (search (arms, c .tad .ensures))))
+    (λ c. let t = c .before in
+    listed Unt _ _ (t .before .before .kind-of .ensures) (t .enum-told4 .given .1) (search (arms, c .talking .ensures)))
+    (λ c. let t = c .before in
+    listed Ifc _ _ (t .before .before .kind-of .ensures) (t .enum-told5 .given .1) (search (arms, c .roles .ensures)))
+    (λ c. let t = c .before in
+    listed Aau _ _ (t .before .before .kind-of .ensures) (t .enum-told6 .given .1) (search (arms, c .aau .ensures)))
     returns-7)

@@ -26,7 +26,8 @@ unfolding loads deviceOf
 returns-3 c =
     let l = c .before .before in
     let s = l .before .before .before .before .before .before .before .before .before .before in
-    left (s .args .rec .now) (loading (deviceOf (s .args .rec .now)) (s .args .bytes .now)) (search arms) (l .loading .ensures)
+    left (s .args .rec .now) (loading (deviceOf (s .args .rec .now)) (s .args .bytes .now)) (search arms)
+    (l .loading .ensures)
 
 returns-4 : tie.Need-returns-4
 unfolding loads

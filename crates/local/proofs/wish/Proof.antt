@@ -13,7 +13,8 @@ unfolding wishes
 returns c =
     let w = c .before .before in
     let s = w .before .before .before .before .before .before in
-    left (s .args .rec .now) (wishing (deviceOf (s .args .rec .now)) (s .args .wish)) (search arms) (w .wishing .ensures)
+    left (s .args .rec .now) (wishing (deviceOf (s .args .rec .now)) (s .args .wish)) (search arms)
+    (w .wishing .ensures)
 
 returns-2 : tie.Need-returns-2
 unfolding wishes

@@ -42,7 +42,8 @@ returns-2 c =
     let s = f .before .before .before .before in
     made (λ d. loads d (s .args .bytes .now)) (s .args .area .now) (s .args .device) _
     (sym (f .find .ensures) ∙ m .i .given .1) (λ j. f .before .before .before .slice-known .given j .fits)
-    (r .record-start .result) (r .record-start .ensures) (λ d g. load-good d (s .args .bytes .now) (λ j. f .before .before .shared-slice-known .given j .fits) g) _ _
+    (r .record-start .result) (r .record-start .ensures)
+    (λ d g. load-good d (s .args .bytes .now) (λ j. f .before .before .shared-slice-known .given j .fits) g) _ _
     (l .load .ensures)
 
 pub load-spec : {M : Type 1} → statement M

@@ -40,11 +40,18 @@ ready-spec =
     (λ c. search needs)
     (λ c κs. (search needs, search needs))
     (λ c κs. search needs)
-    (λ c. listed Sda _ _ (c .before .before .before .kind-of .ensures) (c .before .enum-told .given .1) (c .requested .ensures))
-    (λ c. listed Sst _ _ (c .before .before .before .kind-of .ensures) (c .before .enum-told2 .given .1) (c .sst .ensures))
-    (λ c. listed Sdi _ _ (c .before .before .before .kind-of .ensures) (c .before .enum-told3 .given .1) (c .requested2 .ensures))
-    (λ c. listed Sai _ _ (c .before .before .before .kind-of .ensures) (c .before .enum-told4 .given .1) (c .requested3 .ensures))
-    (λ c. listed Nrd _ _ (c .before .before .before .before .kind-of .ensures) (c .before .before .enum-told5 .given .1) (search (arms, c .sends .ensures, c .before .nrd .ensures)))
-    (λ c. listed Aad _ _ (c .before .before .before .kind-of .ensures) (c .before .enum-told6 .given .1)
-    (rw (← low-five Aad _ (c .before .before .before .kind-of .ensures) (c .before .enum-told6 .given .1) refl) (c .aad .ensures)))
+    (λ c. let t = c .before in
+    listed Sda _ _ (t .before .before .kind-of .ensures) (t .enum-told .given .1) (c .requested .ensures))
+    (λ c. let t = c .before in
+    listed Sst _ _ (t .before .before .kind-of .ensures) (t .enum-told2 .given .1) (c .sst .ensures))
+    (λ c. let t = c .before in
+    listed Sdi _ _ (t .before .before .kind-of .ensures) (t .enum-told3 .given .1) (c .requested2 .ensures))
+    (λ c. let t = c .before in
+    listed Sai _ _ (t .before .before .kind-of .ensures) (t .enum-told4 .given .1) (c .requested3 .ensures))
+    (λ c. let t = c .before .before in
+    listed Nrd _ _ (t .before .before .kind-of .ensures) (t .enum-told5 .given .1)
+    (search (arms, c .sends .ensures, c .before .nrd .ensures)))
+    (λ c. let t = c .before in let k = t .before .before .kind-of .ensures in
+    listed Aad _ _ k (t .enum-told6 .given .1)
+    (rw (← low-five Aad _ k (t .enum-told6 .given .1) refl) (c .aad .ensures)))
     returns-7)

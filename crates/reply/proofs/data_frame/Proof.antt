@@ -17,6 +17,8 @@ data-frame-spec =
     (λ c. search needs)
     (λ c. search needs)
     (λ c κs. search needs)
-    (λ c. let d = deviceOf (c .before .before .before .before .before .before .args .rec .now) in search (arms, c .marked .ensures d))
+    (λ c. let d = deviceOf (c .before .before .before .before .before .before .args .rec .now) in
+    search (arms, c .marked .ensures d))
     (λ c κs. search needs)
-    (λ c. let d = deviceOf (c .before .before .before .before .before .before .args .rec .now) in search (arms, c .marked2 .ensures d)))
+    (λ c. let d = deviceOf (c .before .before .before .before .before .before .args .rec .now) in
+    search (arms, c .marked2 .ensures d)))

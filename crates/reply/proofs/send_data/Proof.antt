@@ -11,7 +11,8 @@ unfolding sendsData
 returns c =
     let f = c .before .before .before in
     let d = deviceOf (f .before .before .args .rec .now) in
-    rw (← f .data-frame .ensures) (sends-on (f .data-frame .result) (c .sends .ensures d) (c .before .counting .ensures d))
+    rw (← f .data-frame .ensures)
+    (sends-on (f .data-frame .result) (c .sends .ensures d) (c .before .counting .ensures d))
 
 pub send-data-spec : {M : Type 1} → statement M
 send-data-spec =

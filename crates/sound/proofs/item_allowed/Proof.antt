@@ -14,7 +14,11 @@ returns c =
     let z = c .before .before in
     let s = z .before .before .before .before .before .before in
     let item = s .args .item .now in
-    rw (c .abilities-allowed .ensures (powerOn item) refl, z .zero-past-length .ensures, take-bytes 8 4 item (search needs))
+    rw (
+      c .abilities-allowed .ensures (powerOn item) refl,
+      z .zero-past-length .ensures,
+      take-bytes 8 4 item (search needs),
+    )
     (at-power-on item)
 
 pub item-allowed-spec : {M : Type 1} → statement M

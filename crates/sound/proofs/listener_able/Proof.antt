@@ -13,5 +13,7 @@ listener-able-spec =
     (tie.spec
     (λ c. search needs)
     (λ c κs. search needs)
-    (λ c. let i = c .before in let b = i .before .before .before .args .rec .now in rw (eq-eqb (getD b 4 0) 1 (i .if1 .taken)) (c .has .ensures))
-    (λ c. let b = c .before .before .before .args .rec .now in rw (ne-eqb (getD b 4 0) 1 (c .if1 .left))))
+    (λ c. let i = c .before in let b = i .before .before .before .args .rec .now in
+    rw (eq-eqb (getD b 4 0) 1 (i .if1 .taken)) (c .has .ensures))
+    (λ c. let b = c .before .before .before .args .rec .now in
+    rw (ne-eqb (getD b 4 0) 1 (c .if1 .left))))

@@ -13,5 +13,7 @@ service-able-spec =
     (tie.spec
     (λ c. search needs)
     (λ c κs. search needs)
-    (λ c. let i = c .before in let b = i .before .before .before .args .rec .now in rw (lt-ltb 0 (getD b 6 0) (i .if1 .taken)) (c .has .ensures))
-    (λ c. let b = c .before .before .before .args .rec .now in rw (le-ltb 0 (getD b 6 0) (c .if1 .left))))
+    (λ c. let i = c .before in let b = i .before .before .before .args .rec .now in
+    rw (lt-ltb 0 (getD b 6 0) (i .if1 .taken)) (c .has .ensures))
+    (λ c. let b = c .before .before .before .args .rec .now in
+    rw (le-ltb 0 (getD b 6 0) (c .if1 .left))))
