@@ -1,4 +1,5 @@
--- The classes of frames that a device tells apart by their control bits C3 C2 C1 (001, Message table).
+-- Commands and ready frames, told by their control bits C3 C2 C1 (001, Message table): the two classes in which a rule
+-- goes by the kind.
 use Prim.Native.Nat.{ℕ, _≤_, _<_}
 
 -- a command: 100

@@ -20,8 +20,8 @@ ghost use Rattle.device.specs.declared.Device.{Device};
 ghost use Rattle.device.specs.Reply.{sends};
 ghost use Rattle.state.specs.State.{values, with, inRecord, sentWith};
 
-// The order of the fields is for the compiler alone: neighbours that a change copies together it keeps in one register,
-// and unpacks again (docs/PERFORMANCE.md).
+// The order of the fields was found by trying: it decides how much stack a hop takes, and means nothing else
+// (docs/PERFORMANCE.md).
 pub struct State {
     pub last: u16,
     pub address: u8,
