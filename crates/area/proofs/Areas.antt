@@ -1,5 +1,5 @@
--- Areas and loops: a sound area's bytes are those of its loop, and a sound loop's area is sound and gives the loop
--- back.
+-- Areas and loops: a sound area's bytes are those of its loop, and a sound loop's area is sound, is bytes and gives the
+-- loop back.
 use mathlib.Core.Path.{_≡_, refl, sym, ap, _∙_}
 use mathlib.Core.List.{List, [], _∷_, _++_, map, append-nil}
 use mathlib.Core.Bool.{Bool, true, false, cond}
@@ -17,7 +17,8 @@ use Rattle.record.specs.Record.{recordSize, deviceOf, recordOf, zeros}
 use Rattle.record.specs.Sound.{soundRecord}
 use Rattle.record.specs.Fits.{Bytes, Good}
 use Rattle.record.proofs.Both.{left, right}
-use Rattle.record.proofs.Laws.{record-wide, record-again, record-back, record-sound, read-good, blank-good}
+use Rattle.record.proofs.Laws.{record-wide, record-again, record-back, record-sound, read-good, blank-good, good-bytes}
+use Rattle.record.proofs.Bytes.{small-bytes, bytes-append}
 use Rattle.device.proofs.Bytes.{take-bytes}
 use Rattle.area.specs.Sizes.{headerSize, linkSize, mostDevices, recordAt, linkAt, areaSize}
 use Rattle.area.specs.Parts.{part, join, all}
@@ -27,8 +28,8 @@ use Rattle.area.specs.Loop.{shaped, Shaped, sound, judgeOf, device, link
 use Rattle.area.specs.Lookup.{setDevice, setLink}
 use Rattle.area.proofs.Parts.{splice, map-back, length-parts, getD-parts, join-parts, length-join, splice-join}
 use Rattle.area.proofs.Parts.{part-join, parts-join, splice-past, part-past}
-use Rattle.area.proofs.Each.{each-set, each-part, each-all, each-again}
-use Rattle.area.proofs.Links.{link-back, link-wide, frames-sound, frames-again, link-sound}
+use Rattle.area.proofs.Each.{each-set, each-part, each-all, each-bytes, each-again}
+use Rattle.area.proofs.Links.{link-back, link-wide, frames-sound, frames-again, link-sound, link-bytes}
 
 -- ---- one device's record or one link's bytes, in a loop's area
 
@@ -261,6 +262,16 @@ module _ (l : Loop) (s : Sound-loop l) where
       let k : map framesOf (map linkOf (l .links)) ≡ l .links = each-again Frames [] linkOf framesOf frames-again
       (l .links) (s .frames) in
       rw (records-of, links-of, r, k)
+
+  -- it is bytes
+  pub bytes-of : Bytes (areaOf l)
+  unfolding areaOf
+  bytes-of =
+      let rs = join (map recordOf (l .devices)) in
+      let ks = join (map linkOf (l .links)) in
+      bytes-append (headerOf (size l)) (rs ++ ks) (small-bytes (headerOf (size l)) (omega (arith, s .few)))
+      (bytes-append rs ks (each-bytes Good (deviceOf []) recordOf good-bytes (l .devices) (s .devices))
+      (each-bytes Frames [] linkOf link-bytes (l .links) (s .frames)))
 
   pub holds-of : Holds (areaOf l) l
   holds-of = record { judged = judge-of; held = loop-of; written = refl }

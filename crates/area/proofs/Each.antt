@@ -7,7 +7,8 @@ use lib.ListN.{getD, take, drop, set, replicate}
 use lib.Seq.{getD-drop}
 use Rattle.record.specs.Fits.{Bytes}
 use Rattle.record.proofs.Both.{both-true, left, right}
-use Rattle.area.specs.Parts.{parts, all}
+use Rattle.record.proofs.Bytes.{zeros-small, bytes-append}
+use Rattle.area.specs.Parts.{parts, join, all}
 use Rattle.area.proofs.Parts.{bytes-part}
 
 module _ {A : Type 0} (P : A → Type 0) (d : A) where
@@ -54,7 +55,14 @@ module _ {A : Type 0} (P : A → Type 0) (d : A) where
   each-all p f t [] h = refl
   each-all p f t (x ∷ xs) h = both-true (t x (h zero)) (each-all p f t xs (λ k. h (suc k)))
 
-  -- and what is read of what was written is the same
+  -- and what is written of all is bytes, if that of each is
+  pub each-bytes : (f : A → List ℕ) → ((x : A) → P x → Bytes (f x)) → (xs : List A) → Each xs → Bytes (join (map f xs))
+  unfolding join
+  each-bytes f t [] h = zeros-small 0
+  each-bytes f t (x ∷ xs) h =
+      bytes-append (f x) (join (map f xs)) (t x (h zero)) (each-bytes f t xs (λ k. h (suc k)))
+
+  -- what is read of what was written is the same
   pub each-again : {B : Type 0} (f : A → B) (g : B → A) → ((x : A) → P x → g (f x) ≡ x) → (xs : List A) → Each xs →
       map g (map f xs) ≡ xs
   each-again f g t [] h = refl

@@ -15,8 +15,9 @@ use Rattle.device.proofs.Bytes.{bytes-all}
 use Rattle.record.specs.Record.{word}
 use Rattle.record.specs.Fits.{Bytes}
 use Rattle.record.proofs.Both.{left, right}
+use Rattle.record.proofs.Bytes.{small-bytes}
 use Rattle.area.specs.Sizes.{depth, linkSize}
-use Rattle.area.specs.Link.{slotsOf, framesOf, linkOf, soundSlot, soundLink, Frames, IsLink}
+use Rattle.area.specs.Link.{slotsOf, framesOf, bytesOf, linkOf, soundSlot, soundLink, Frames, IsLink}
 use Rattle.area.specs.Lookup.{oldestOf, roomOf}
 use Rattle.area.specs.declared.Room.{Room}
 use Rattle.area.specs.declared.Oldest.{Oldest}
@@ -201,6 +202,11 @@ link-sound fs h =
       slot 2,
       slot 3,
     )
+
+pub link-bytes : (fs : List ℕ) → Frames fs → Bytes (linkOf fs)
+unfolding linkOf
+link-bytes fs h =
+    small-bytes (length fs ∷ 0 ∷ bytesOf 0 depth fs) (omega (arith, h .few, h .each 0, h .each 1, h .each 2, h .each 3))
 
 -- ---- a frame less, a frame more
 

@@ -1,10 +1,14 @@
--- The laws of areas and loops, as statements: an area without a refusal and a sound loop say the same. Proofs:
--- proofs/Laws.antt.
+-- The laws of areas and loops, as statements: an area without a refusal and a sound loop say the same, the area is
+-- bytes, and a link's room is used again. Proofs: proofs/Laws.antt.
 use Prim.Native.Nat.{ℕ}
 use mathlib.Core.Path.{_≡_}
-use mathlib.Core.List.{List}
+use mathlib.Core.List.{List, _∷_}
+use lib.ListN.{length}
 use Rattle.record.specs.Fits.{Bytes}
+use Rattle.area.specs.Link.{Frames}
 use Rattle.area.specs.Loop.{Loop, loopOf, areaOf, judgeOf, Sound-loop}
+use Rattle.area.specs.Lookup.{roomOf}
+use Rattle.area.specs.declared.Room.{Room}
 
 -- The area of the loop read from an area without a refusal is that area, byte for byte
 abbrev pub AreaBack : Type 0
@@ -21,3 +25,11 @@ LoopBack = (l : Loop) → Sound-loop l → loopOf (areaOf l) ≡ l
 -- and that area has no refusal
 abbrev pub AreaSound : Type 0
 AreaSound = (l : Loop) → Sound-loop l → judgeOf (areaOf l) ≡ 0
+
+-- and is bytes
+abbrev pub AreaBytes : Type 0
+AreaBytes = (l : Loop) → Sound-loop l → Bytes (areaOf l)
+
+-- Room freed in a link is used again: without its oldest frame a link has room
+abbrev pub RoomAgain : Type 0
+RoomAgain = (f : ℕ) (fs : List ℕ) → Frames (f ∷ fs) → roomOf fs ≡ Room.Behind (length fs)

@@ -15,14 +15,15 @@ use Rattle.record.specs.Fits.{Good}
 use Rattle.keeps.proofs.Keeps.{take-good}
 use Rattle.area.specs.Sizes.{depth}
 use Rattle.area.specs.Loop.{Loop, size, device, link, Sound-loop}
-use Rattle.area.specs.Lookup.{oldestOf, setDevice, add, remove}
+use Rattle.area.specs.Lookup.{oldestOf, roomOf, placeOf, setDevice, add, remove}
 use Rattle.area.specs.declared.Oldest.{Oldest}
+use Rattle.area.specs.declared.Room.{Room}
 use Rattle.area.specs.declared.Place.{Place}
-use Rattle.area.proofs.Links.{oldest-is, frames-less, frames-more}
+use Rattle.area.proofs.Links.{oldest-is, room-is, frames-less, frames-more}
 use Rattle.area.proofs.Areas.{device-kept, link-kept}
 use Rattle.calls.specs.Outcome.{Outcome, refuse, done, loopAfter}
-use Rattle.calls.specs.Calls.{noDevice, full, hasRoom, putIn, takeIn, takeFrom, hopAnswer, sentBy, passed}
-use Rattle.calls.specs.Calls.{hopFrom, hopIn, localIn}
+use Rattle.calls.specs.Calls.{atPlace, ofOldest, intoRoom, putIn, takenFrom, takeIn, sentBy, passed, passes}
+use Rattle.calls.specs.Calls.{passesOn, hopFrom, hopIn, calledAt, localIn}
 use Rattle.calls.specs.Drain.{noHopLeft, budgetSpent, highest, stopped, handedTo, turned, onPlace, drainFrom}
 use Rattle.calls.specs.Laws.{Kept, PutKeeps, TakeKeeps, HopKeeps, Keeps, DrainKeeps}
 use Rattle.calls.specs.declared.HopAnswer.{HopAnswer}
@@ -76,61 +77,64 @@ passed-kept i f l s e room =
 
 pub put-keeps : PutKeeps
 unfolding putIn
-put-keeps f l s = go (ltb f frames) (hasRoom 0 l) refl refl
+put-keeps f l s = go (ltb f frames) (roomOf (link l 0)) refl refl
   where
-    go : (t u : Bool) → ltb f frames ≡ t → hasRoom 0 l ≡ u →
-        Kept l (loopAfter {A = ℕ} l (cond t (cond u (done 0 (add 0 f l)) (refuse full)) (refuse badFrame)))
-    go false u p q = unchanged l s
-    go true false p q = unchanged l s
-    go true true p q = add-kept l s 0 f (ltb-true _ _ q) (ltb-true _ _ p)
+    go : (t : Bool) (r : Room) → ltb f frames ≡ t → roomOf (link l 0) ≡ r →
+        Kept l (loopAfter {A = ℕ} l (cond t (intoRoom (done 0 (add 0 f l)) r) (refuse badFrame)))
+    go false r p q = unchanged l s
+    go true Room.Full p q = unchanged l s
+    go true (Room.Behind n) p q = add-kept l s 0 f (room-is (link l 0) n q .0) (ltb-true _ _ p)
 
 pub take-keeps : TakeKeeps
 unfolding takeIn
 take-keeps l s = go (oldestOf (link l (size l)))
   where
-    go : (o : Oldest) → Kept l (loopAfter l (takeFrom l o))
+    go : (o : Oldest) → Kept l (loopAfter l (ofOldest (takenFrom l) o))
     go Oldest.Empty = unchanged l s
     go (Oldest.Frame f) = remove-kept l s (size l)
 
 pub hop-keeps : HopKeeps
 unfolding hopIn
-hop-keeps i l s = there (ltb i (size l)) (oldestOf (link l i)) refl
+hop-keeps i l s = there (placeOf l i) refl
   where
-    room : (f : ℕ) → oldestOf (link l i) ≡ Oldest.Frame f → (t : Bool) → hasRoom (suc i) l ≡ t →
-        Kept l (loopAfter {A = HopAnswer} l
-        (cond t (done (hopAnswer (sentBy i f l .frame) (sentBy i f l .handed)) (passed i f l)) (refuse full)))
-    room f e true r = passed-kept i f l s e (ltb-true _ _ r)
-    room f e false r = unchanged l s
+    room : (k f : ℕ) → oldestOf (link l k) ≡ Oldest.Frame f → (r : Room) → roomOf (link l (suc k)) ≡ r →
+        Kept l (loopAfter l (intoRoom (passes k f l) r))
+    room k f e (Room.Behind n) q = passed-kept k f l s e (room-is (link l (suc k)) n q .0)
+    room k f e Room.Full q = unchanged l s
 
-    there : (t : Bool) (o : Oldest) → oldestOf (link l i) ≡ o →
-        Kept l (loopAfter {A = HopAnswer} l (cond t (hopFrom i l o) (refuse noDevice)))
-    there false o e = unchanged l s
-    there true Oldest.Empty e = unchanged l s
-    there true (Oldest.Frame f) e = room f e (hasRoom (suc i) l) refl
+    oldest : (k : ℕ) (o : Oldest) → oldestOf (link l k) ≡ o → Kept l (loopAfter l (ofOldest (passesOn k l) o))
+    oldest k Oldest.Empty e = unchanged l s
+    oldest k (Oldest.Frame f) e = room k f e (roomOf (link l (suc k))) refl
+
+    there : (p : Place) → placeOf l i ≡ p → Kept l (loopAfter l (atPlace (hopFrom l) p))
+    there Place.NoDevice e = unchanged l s
+    there (Place.At k) e = oldest k (oldestOf (link l k)) refl
 
 -- a local call that keeps devices good
 pub local-keeps : (call : Device → Called) → ((d : Device) → Good d → Good (call d .device)) → (i : ℕ) →
     Keeps (localIn call i)
 unfolding localIn
-local-keeps call good i l s = go (ltb i (size l)) (eqb (call (device l i) .refusal) 0)
+local-keeps call good i l s = there (placeOf l i)
   where
-    go : (t u : Bool) → Kept l
-        (loopAfter {A = ℕ} l (cond t
-        (cond u (done 0 (setDevice i (call (device l i) .device) l)) (refuse (call (device l i) .refusal)))
-        (refuse noDevice)))
-    go false u = unchanged l s
-    go true false = unchanged l s
-    go true true = set-kept l s i (call (device l i) .device) (good (device l i) (s .devices i))
+    called : (k : ℕ) (u : Bool) → Kept l
+        (loopAfter {A = ℕ} l
+        (cond u (done 0 (setDevice k (call (device l k) .device) l)) (refuse (call (device l k) .refusal))))
+    called k false = unchanged l s
+    called k true = set-kept l s k (call (device l k) .device) (good (device l k) (s .devices k))
+
+    there : (p : Place) → Kept l (loopAfter l (atPlace (calledAt call l) p))
+    there Place.NoDevice = unchanged l s
+    there (Place.At k) = called k (eqb (call (device l k) .refusal) 0)
 
 -- ---- the drain
 
 turned-keeps : (i h : ℕ) (next : Loop → Outcome DrainAnswer) (l m : Loop) → Kept l m →
     ((k : Loop) → Kept l k → Kept l (loopAfter l (next k))) →
     (o : Outcome HopAnswer) → Kept l (loopAfter m o) → Kept l (loopAfter l (turned i h next m o))
-turned-keeps i h next l m s k (refuse n) t = k m s
+turned-keeps i h next l m s k (refuse n) t = s
 turned-keeps i h next l m s k (done r q) t = go (eqb (r .handed) 1)
   where
-    go : (u : Bool) → Kept l (loopAfter l (cond u (handedTo i h r q) (next q)))
+    go : (u : Bool) → Kept l (loopAfter l (cond u (handedTo i (suc h) r q) (next q)))
     go true = t
     go false = k q t
 
@@ -145,10 +149,10 @@ drain-keeps-from (suc b) h l m s = go (λ k t. drain-keeps-from b (suc h) l k t)
   where
     go : ((k : Loop) → Kept l k → Kept l (loopAfter l (drainFrom b (suc h) k))) → (p : Place) →
         Kept l (loopAfter l (onPlace (stopped noHopLeft h m)
-        (λ i. turned i (suc h) (drainFrom b (suc h)) m (hopIn i m)) p))
+        (λ i. turned i h (drainFrom b (suc h)) m (hopIn i m)) p))
     go k Place.NoDevice = s
     go k (Place.At i) =
-        turned-keeps i (suc h) (drainFrom b (suc h)) l m s k (hopIn i m)
+        turned-keeps i h (drainFrom b (suc h)) l m s k (hopIn i m)
         (and-then l m (loopAfter m (hopIn i m)) s (hop-keeps i m (s .sound)))
 
 pub drain-keeps : DrainKeeps

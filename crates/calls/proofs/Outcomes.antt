@@ -5,23 +5,20 @@ use mathlib.Core.Bool.{Bool, true, false, cond}
 use Prim.Native.Nat.{ℕ, suc, _≤_, _<_}
 use native.Mathlib.Omega.{arith}
 use lib.Dec.{ltb}
-use lib.ListN.{length}
 use lib.Seq.{getD-set-other}
 use borrow.Author.Tests.{lt-ltb, le-ltb, ltb-true, ltb-false, eq-eqb, ne-eqb}
 use Rattle.frame.specs.Messages.{frames}
 use Rattle.frame.specs.Coding.{badFrame}
 use Rattle.device.specs.declared.Device.{Device}
 use Rattle.local.specs.Local.{Called}
-use Rattle.area.specs.Sizes.{depth}
 use Rattle.area.specs.Loop.{Loop, size, loopOf, judgeOf, device, link}
 use Rattle.area.specs.Lookup.{oldestOf, roomOf, placeOf, setLink, add, remove}
 use Rattle.area.specs.declared.Oldest.{Oldest}
 use Rattle.area.specs.declared.Room.{Room}
 use Rattle.area.specs.declared.Place.{Place}
-use Rattle.area.proofs.Links.{room-is}
 use Rattle.calls.specs.Outcome.{Outcome, refuse, done, after, afterOf, callOf, Is}
-use Rattle.calls.specs.Calls.{noDevice, empty, full, putIn, takeIn, takeFrom, hopAnswer, sentBy, passed}
-use Rattle.calls.specs.Calls.{hopFrom, hopIn, calledIn, localIn}
+use Rattle.calls.specs.Calls.{noDevice, empty, full, ofOldest, intoRoom, putIn, takenFrom, takeIn, hopAnswer}
+use Rattle.calls.specs.Calls.{sentBy, passed, passes, passesOn, hopIn, calledIn, localIn}
 
 -- ---- any call
 
@@ -43,16 +40,6 @@ module _ {A : Type 0} (deny : ℕ → A) (call : Loop → Outcome A) (a : List �
   judged-right k r x e z h = rw (call-done (sym e ∙ z)) h
 
 -- ---- what the lookups say
-
-pub room-full : (fs : List ℕ) → roomOf fs ≡ Room.Full → ltb (length fs) depth ≡ false
-room-full fs h = go (ltb (length fs) depth) h
-  where
-    go : (t : Bool) → cond t (Room.Behind (length fs)) Room.Full ≡ Room.Full → t ≡ false
-    go true e = cc
-    go false e = refl
-
-pub room-some : (fs : List ℕ) (n : ℕ) → roomOf fs ≡ Room.Behind n → ltb (length fs) depth ≡ true
-room-some fs n h = lt-ltb _ _ (room-is fs n h .0)
 
 pub place-at : (l : Loop) (i k : ℕ) → placeOf l i ≡ Place.At k → (i < size l) × (k ≡ i)
 place-at l i k h = go (ltb i (size l)) refl h
@@ -77,21 +64,21 @@ module _ (f : ℕ) (l : Loop) where
 
   pub put-full : f < frames → roomOf (link l 0) ≡ Room.Full → putIn f l ≡ refuse full
   unfolding putIn
-  put-full h e = rw (lt-ltb _ _ h, room-full (link l 0) e)
+  put-full h e = rw (lt-ltb _ _ h) (ap (intoRoom (done 0 (add 0 f l))) e)
 
   pub put-done : (n : ℕ) → f < frames → roomOf (link l 0) ≡ Room.Behind n → putIn f l ≡ done 0 (add 0 f l)
   unfolding putIn
-  put-done n h e = rw (lt-ltb _ _ h, room-some (link l 0) n e)
+  put-done n h e = rw (lt-ltb _ _ h) (ap (intoRoom (done 0 (add 0 f l))) e)
 
 module _ (l : Loop) (n : ℕ) (tail : n ≡ size l) where
   pub take-empty : oldestOf (link l n) ≡ Oldest.Empty → takeIn l ≡ refuse empty
   unfolding takeIn
-  take-empty e = ap (takeFrom l) (rw tail at e)
+  take-empty e = ap (ofOldest (takenFrom l)) (rw tail at e)
 
   pub take-done : (f : ℕ) → oldestOf (link l n) ≡ Oldest.Frame f →
       takeIn l ≡ done (record { frame = f; refusal = 0 }) (remove n l)
   unfolding takeIn
-  take-done f e = rw tail (ap (takeFrom l) (rw tail at e))
+  take-done f e = rw tail (ap (ofOldest (takenFrom l)) (rw tail at e))
 
 -- ---- hop
 
@@ -102,18 +89,18 @@ module _ (i : ℕ) (l : Loop) where
 
   pub hop-empty : i < size l → oldestOf (link l i) ≡ Oldest.Empty → hopIn i l ≡ refuse empty
   unfolding hopIn
-  hop-empty h e = rw (lt-ltb _ _ h) (ap (hopFrom i l) e)
+  hop-empty h e = rw (lt-ltb _ _ h) (ap (ofOldest (passesOn i l)) e)
 
   pub hop-full : (f : ℕ) → i < size l → oldestOf (link l i) ≡ Oldest.Frame f → roomOf (link l (suc i)) ≡ Room.Full →
       hopIn i l ≡ refuse full
   unfolding hopIn
-  hop-full f h e s = rw (lt-ltb _ _ h) (ap (hopFrom i l) e ∙ rw (room-full (link l (suc i)) s))
+  hop-full f h e s = rw (lt-ltb _ _ h) (ap (ofOldest (passesOn i l)) e ∙ ap (intoRoom (passes i f l)) s)
 
   pub hop-done : (f n : ℕ) → i < size l → oldestOf (link l i) ≡ Oldest.Frame f →
       roomOf (link l (suc i)) ≡ Room.Behind n →
       hopIn i l ≡ done (hopAnswer (sentBy i f l .frame) (sentBy i f l .handed)) (passed i f l)
   unfolding hopIn
-  hop-done f n h e s = rw (lt-ltb _ _ h) (ap (hopFrom i l) e ∙ rw (room-some (link l (suc i)) n s))
+  hop-done f n h e s = rw (lt-ltb _ _ h) (ap (ofOldest (passesOn i l)) e ∙ ap (intoRoom (passes i f l)) s)
 
 -- what a hop does to link i does not concern link i + 1
 pub link-next : (i : ℕ) (fs : List ℕ) (l : Loop) → link (setLink i fs l) (suc i) ≡ link l (suc i)

@@ -1,30 +1,32 @@
 -- The drain, turn by turn: which device is found, what its hop does, and what the whole drain then is.
 use mathlib.Core.Path.{_≡_, refl, sym, ap, _∙_}
 use mathlib.Core.List.{List}
-use mathlib.Core.Bool.{Bool, true, false, cond}
+use mathlib.Core.Bool.{true, false}
 use Prim.Native.Nat.{ℕ, zero, suc, _+_, _-_, _≤_, _<_}
 use native.Mathlib.Omega.{arith}
 use native.Mathlib.Numerals.{add-one}
 use native.Mathlib.Nat.{not-suc-le-zero, sub-zero}
-use lib.Dec.{ltb}
 use lib.ListN.{length}
-use borrow.Author.Tests.{lt-ltb, ltb-true, eq-eqb, ne-eqb}
+use borrow.Author.Tests.{lt-ltb, eq-eqb, ne-eqb}
 use Rattle.record.specs.Fits.{Bytes}
 use Rattle.area.specs.Loop.{Loop, loopOf, areaOf, judgeOf, size, link, Sound-loop, Holds}
-use Rattle.area.specs.Lookup.{oldestOf}
+use Rattle.area.specs.Lookup.{oldestOf, roomOf, placeOf}
 use Rattle.area.specs.declared.Oldest.{Oldest}
+use Rattle.area.specs.declared.Room.{Room}
 use Rattle.area.specs.declared.Place.{Place}
 use Rattle.area.proofs.Links.{some-frame}
 use Rattle.area.proofs.Areas.{area-holds, loop-good, holds-of}
 use Rattle.calls.specs.Outcome.{Outcome, refuse, done, afterOf, Is, loopAfter}
-use Rattle.calls.specs.Calls.{noDevice, full, hasRoom, noHop, hopAnswer, sentBy, passed, hopFrom, hopIn}
-use Rattle.calls.specs.Drain.{noHopLeft, budgetSpent, byteHanded, noDrain, canFrom, canHop, highest, stopped}
-use Rattle.calls.specs.Drain.{handedTo, turned, drainFrom, drainIn}
+use Rattle.calls.specs.Calls.{atPlace, ofOldest, intoRoom, noHop, sentBy, passed, passes, passesOn, hopFrom}
+use Rattle.calls.specs.Calls.{hopIn}
+use Rattle.calls.specs.Drain.{noHopLeft, budgetSpent, byteHanded, noDrain, hasRoom, canFrom, canHop, highest}
+use Rattle.calls.specs.Drain.{stopped, handedTo, turned, drainFrom, drainIn}
 use Rattle.calls.specs.Owed.{owed}
 use Rattle.calls.specs.Laws.{HopPays}
 use Rattle.calls.specs.declared.HopAnswer.{HopAnswer}
 use Rattle.calls.specs.declared.DrainAnswer.{DrainAnswer}
 use Rattle.calls.proofs.Kept.{hop-keeps}
+use Rattle.calls.proofs.Outcomes.{place-at}
 use Rattle.calls.proofs.Owing.{owed-moved}
 
 -- the area after a call
@@ -39,7 +41,8 @@ pub can-empty : (i : ℕ) (l : Loop) → oldestOf (link l i) ≡ Oldest.Empty �
 unfolding canHop
 can-empty i l e = ap (canFrom i l) e
 
-pub can-is : (i f : ℕ) (l : Loop) → oldestOf (link l i) ≡ Oldest.Frame f → canHop i l ≡ hasRoom (suc i) l
+pub can-is : (i f : ℕ) (l : Loop) → oldestOf (link l i) ≡ Oldest.Frame f →
+    canHop i l ≡ hasRoom (roomOf (link l (suc i)))
 unfolding canHop
 can-is i f l e = ap (canFrom i l) e
 
@@ -67,13 +70,34 @@ passed-pays i f l s h e = owed-moved (l .links) i (sentBy i f l .frame) (omega (
 pub can-pays : (i : ℕ) (l : Loop) → Sound-loop l → i < size l → canHop i l ≡ true →
     owed (loopAfter l (hopIn i l) .links) + 1 ≡ owed (l .links)
 unfolding hopIn canHop
-can-pays i l s h t = go (oldestOf (link l i)) refl t
+can-pays i l s h t = rw (lt-ltb _ _ h) (go (oldestOf (link l i)) refl t)
   where
+    room : (f : ℕ) → oldestOf (link l i) ≡ Oldest.Frame f → (r : Room) → hasRoom r ≡ true →
+        owed (loopAfter l (intoRoom (passes i f l) r) .links) + 1 ≡ owed (l .links)
+    room f e (Room.Behind n) c = passed-pays i f l s h e
+    room f e Room.Full c = let z : _≡_ {A = ℕ} 0 1 = cc in let y : ⊥ = omega arith in absurd y
+
     go : (o : Oldest) → oldestOf (link l i) ≡ o → canFrom i l o ≡ true →
-        owed (loopAfter {A = HopAnswer} l (cond (ltb i (size l)) (hopFrom i l o) (refuse noDevice)) .links) + 1 ≡ owed
-        (l .links)
+        owed (loopAfter l (ofOldest (passesOn i l) o) .links) + 1 ≡ owed (l .links)
     go Oldest.Empty e c = let z : _≡_ {A = ℕ} 0 1 = cc in let y : ⊥ = omega arith in absurd y
-    go (Oldest.Frame f) e c = rw (lt-ltb _ _ h, c) (passed-pays i f l s h e)
+    go (Oldest.Frame f) e c = room f e (roomOf (link l (suc i))) c
+
+-- a call that is done
+abbrev pub IsDone : {A : Type 0} → Outcome A → Type 0
+IsDone (refuse k) = ⊥
+IsDone (done r m) = Unit {0}
+
+pub can-done : (i : ℕ) (l : Loop) → i < size l → canHop i l ≡ true → IsDone (hopIn i l)
+unfolding hopIn canHop
+can-done i l h t = rw (lt-ltb _ _ h) (go (oldestOf (link l i)) t)
+  where
+    room : (f : ℕ) (r : Room) → hasRoom r ≡ true → IsDone (intoRoom (passes i f l) r)
+    room f (Room.Behind n) c = tt
+    room f Room.Full c = let z : _≡_ {A = ℕ} 0 1 = cc in omega arith
+
+    go : (o : Oldest) → canFrom i l o ≡ true → IsDone (ofOldest (passesOn i l) o)
+    go Oldest.Empty c = let z : _≡_ {A = ℕ} 0 1 = cc in omega arith
+    go (Oldest.Frame f) c = room f (roomOf (link l (suc i))) c
 
 -- ---- the drain
 
@@ -88,7 +112,7 @@ module _ (h : ℕ) (l : Loop) where
   drain-spent b i z e = rw (z, e)
 
   pub drain-turn : (b i : ℕ) → 0 < b → highest (size l) l ≡ Place.At i →
-      drainFrom b h l ≡ turned i (h + 1) (drainFrom (b - 1) (h + 1)) l (hopIn i l)
+      drainFrom b h l ≡ turned i h (drainFrom (b - 1) (h + 1)) l (hopIn i l)
   unfolding drainFrom
   drain-turn zero i z e = absurd (not-suc-le-zero z)
   drain-turn (suc b) i z e = let k : suc b - 1 ≡ b = omega arith in rw (e, k, add-one)
@@ -96,15 +120,15 @@ module _ (h : ℕ) (l : Loop) where
 -- after a hop that answers r: a byte was handed over, or not
 module _ (a : List ℕ) (i h : ℕ) (next : Loop → Outcome DrainAnswer) (l : Loop) (r : HopAnswer) where
   pub turned-stop : (o : Outcome HopAnswer) → r ≡ afterOf noHop a o .answer → r .handed ≡ 1 →
-      turned i h next l o ≡ handedTo i h r (loopAfter l o)
+      turned i h next l o ≡ handedTo i (h + 1) r (loopAfter l o)
   turned-stop (refuse k) e t = let x : _≡_ {A = ℕ} 0 1 = sym (ap (λ (q : HopAnswer). q .handed) e)
       ∙ t in let y : ⊥ = omega arith in absurd y
-  turned-stop (done q m) e t = rw (eq-eqb (q .handed) 1 (sym (ap (λ (q : HopAnswer). q .handed) e) ∙ t), e)
+  turned-stop (done q m) e t = rw (eq-eqb (q .handed) 1 (sym (ap (λ (q : HopAnswer). q .handed) e) ∙ t), e, add-one)
 
-  pub turned-on : (o : Outcome HopAnswer) → r ≡ afterOf noHop a o .answer → (r .handed ≡ 1 → ⊥) →
+  pub turned-on : (o : Outcome HopAnswer) → IsDone o → r ≡ afterOf noHop a o .answer → (r .handed ≡ 1 → ⊥) →
       turned i h next l o ≡ next (loopAfter l o)
-  turned-on (refuse k) e t = refl
-  turned-on (done q m) e t = rw (ne-eqb (q .handed) 1 (λ z. t (ap (λ (q : HopAnswer). q .handed) e ∙ z)))
+  turned-on (refuse k) d e t = absurd d
+  turned-on (done q m) d e t = rw (ne-eqb (q .handed) 1 (λ z. t (ap (λ (q : HopAnswer). q .handed) e ∙ z)))
 
 -- ---- turns on an area
 
@@ -168,7 +192,7 @@ module _ (a₀ a : List ℕ) (b n h : ℕ) (t : Turn a₀ a b n h) where
     left =
         rw (is .1 ∙ after-area noHop l a (hopIn i l) (t .holds .written)) (holds-of m (hop-keeps i l (t .sound) .sound))
 
-    turn : drainFrom b 0 (loopOf a₀) ≡ turned i (h + 1) (drainFrom (b - h - 1) (h + 1)) l (hopIn i l)
+    turn : drainFrom b 0 (loopOf a₀) ≡ turned i h (drainFrom (b - h - 1) (h + 1)) l (hopIn i l)
     turn = t .rest ∙ drain-turn h l (b - h) i (omega (arith, t .within)) (rw (t .count) at found)
 
     pub handed-over : r .handed ≡ 1 →
@@ -181,13 +205,14 @@ module _ (a₀ a : List ℕ) (b n h : ℕ) (t : Turn a₀ a b n h) where
           end = r .end;
         }) x
     handed-over e =
-        rw (turn ∙ turned-stop a i (h + 1) (drainFrom (b - h - 1) (h + 1)) l r (hopIn i l) (is .0) e)
+        rw (turn ∙ turned-stop a i h (drainFrom (b - h - 1) (h + 1)) l r (hopIn i l) (is .0) e)
         (refl, left .written)
 
     pub next-turn : (r .handed ≡ 1 → ⊥) → length x ≡ length a → Turn a₀ x b n (h + 1)
     next-turn e k =
         let s = hop-keeps i l (t .sound) in
         let p = can-pays i l (t .sound) (rw (t .count) at there) can in
+        let did = can-done i l (rw (t .count) at there) can in
         let d : b - (h + 1) ≡ b - h - 1 = omega arith in
         let f : loopOf x ≡ m = left .held in
         record {
@@ -197,25 +222,27 @@ module _ (a₀ a : List ℕ) (b n h : ℕ) (t : Turn a₀ a b n h) where
           within = omega (arith, t .within);
           long = k ∙ t .long;
           paid = rw f (omega (arith, t .paid));
-          rest = rw (f, d) (turn ∙ turned-on a i (h + 1) (drainFrom (b - h - 1) (h + 1)) l r (hopIn i l) (is .0) e);
+          rest = rw (f, d)
+              (turn ∙ turned-on a i h (drainFrom (b - h - 1) (h + 1)) l r (hopIn i l) did (is .0) e);
         }
 
 -- ---- any hop that is not refused pays
 
 pub hop-pays : HopPays
 unfolding hopIn
-hop-pays i l m r s e = there (ltb i (size l)) refl (oldestOf (link l i)) refl e
+hop-pays i l m r s e = there (placeOf l i) refl e
   where
-    room : (f : ℕ) → i < size l → oldestOf (link l i) ≡ Oldest.Frame f → (t : Bool) →
-        _≡_ {A = Outcome HopAnswer}
-        (cond t (done (hopAnswer (sentBy i f l .frame) (sentBy i f l .handed)) (passed i f l)) (refuse full))
-        (done r m) →
-        owed (m .links) + 1 ≡ owed (l .links)
-    room f h o true d = let k : m ≡ passed i f l = cc in rw k (passed-pays i f l s h o)
-    room f h o false d = let z : _≡_ {A = ℕ} 0 1 = cc in let y : ⊥ = omega arith in absurd y
+    room : (k f : ℕ) → k < size l → oldestOf (link l k) ≡ Oldest.Frame f → (q : Room) →
+        intoRoom (passes k f l) q ≡ done r m → owed (m .links) + 1 ≡ owed (l .links)
+    room k f h o (Room.Behind n) d = let j : m ≡ passed k f l = cc in rw j (passed-pays k f l s h o)
+    room k f h o Room.Full d = let z : _≡_ {A = ℕ} 0 1 = cc in let y : ⊥ = omega arith in absurd y
 
-    there : (t : Bool) → ltb i (size l) ≡ t → (o : Oldest) → oldestOf (link l i) ≡ o →
-        cond t (hopFrom i l o) (refuse noDevice) ≡ done r m → owed (m .links) + 1 ≡ owed (l .links)
-    there false q o p d = let z : _≡_ {A = ℕ} 0 1 = cc in let y : ⊥ = omega arith in absurd y
-    there true q Oldest.Empty p d = let z : _≡_ {A = ℕ} 0 1 = cc in let y : ⊥ = omega arith in absurd y
-    there true q (Oldest.Frame f) p d = room f (ltb-true _ _ q) p (hasRoom (suc i) l) d
+    oldest : (k : ℕ) → k < size l → (o : Oldest) → oldestOf (link l k) ≡ o → ofOldest (passesOn k l) o ≡ done r m →
+        owed (m .links) + 1 ≡ owed (l .links)
+    oldest k h Oldest.Empty p d = let z : _≡_ {A = ℕ} 0 1 = cc in let y : ⊥ = omega arith in absurd y
+    oldest k h (Oldest.Frame f) p d = room k f h p (roomOf (link l (suc k))) d
+
+    there : (p : Place) → placeOf l i ≡ p → atPlace (hopFrom l) p ≡ done r m → owed (m .links) + 1 ≡ owed (l .links)
+    there Place.NoDevice q d = let z : _≡_ {A = ℕ} 0 1 = cc in let y : ⊥ = omega arith in absurd y
+    there (Place.At k) q d =
+        let a = place-at l i k q in oldest k (rw (a .1) (a .0)) (oldestOf (link l k)) refl d

@@ -2,9 +2,8 @@
 -- order.
 use Prim.Native.Nat.{ℕ, suc}
 use mathlib.Core.List.{List}
-use mathlib.Core.Bool.{Bool, cond}
+use mathlib.Core.Bool.{cond}
 use lib.Dec.{ltb, eqb}
-use lib.ListN.{length}
 use Rattle.frame.specs.Messages.{frames}
 use Rattle.frame.specs.Coding.{badFrame}
 use Rattle.device.specs.Take.{takes}
@@ -14,10 +13,11 @@ use Rattle.device.specs.declared.Handed.{Handed}
 use Rattle.device.specs.declared.Handed.the-variants as handed
 use Rattle.device.specs.Sent.{Sent}
 use Rattle.local.specs.Local.{Called}
-use Rattle.area.specs.Sizes.{depth}
 use Rattle.area.specs.Loop.{Loop, size, device, link}
-use Rattle.area.specs.Lookup.{oldestOf, setDevice, add, remove}
+use Rattle.area.specs.Lookup.{oldestOf, roomOf, placeOf, setDevice, add, remove}
 use Rattle.area.specs.declared.Oldest.{Oldest}
+use Rattle.area.specs.declared.Room.{Room}
+use Rattle.area.specs.declared.Place.{Place}
 use Rattle.calls.specs.Outcome.{Outcome, refuse, done, After, callOf}
 use Rattle.calls.specs.declared.HopAnswer.{HopAnswer}
 use Rattle.calls.specs.declared.TakeAnswer.{TakeAnswer}
@@ -32,9 +32,22 @@ empty = 5
 abbrev pub full : ℕ
 full = 6
 
--- link j has room for a frame
-abbrev pub hasRoom : ℕ → Loop → Bool
-hasRoom j l = ltb (length (link l j)) depth
+-- ---- the lookups' answers in the paper's numbers
+
+-- with the device at a place, refusal 3 where there is none
+abbrev pub atPlace : {A : Type 0} → (ℕ → Outcome A) → Place → Outcome A
+atPlace call Place.NoDevice = refuse noDevice
+atPlace call (Place.At i) = call i
+
+-- with a link's oldest frame, refusal 5 where it holds none
+abbrev pub ofOldest : {A : Type 0} → (ℕ → Outcome A) → Oldest → Outcome A
+ofOldest call Oldest.Empty = refuse empty
+ofOldest call (Oldest.Frame f) = call f
+
+-- into a link's room, refusal 6 where there is none
+abbrev pub intoRoom : {A : Type 0} → Outcome A → Room → Outcome A
+intoRoom sent Room.Full = refuse full
+intoRoom sent (Room.Behind n) = sent
 
 -- the answer of a call that answers its refusal alone
 abbrev pub refusal : ℕ → ℕ
@@ -43,19 +56,19 @@ refusal k = k
 -- ---- put: a frame of any kind into link 0
 
 unfoldable pub putIn : ℕ → Loop → Outcome ℕ
-putIn f l = cond (ltb f frames) (cond (hasRoom 0 l) (done 0 (add 0 f l)) (refuse full)) (refuse badFrame)
+putIn f l = cond (ltb f frames) (intoRoom (done 0 (add 0 f l)) (roomOf (link l 0))) (refuse badFrame)
 
 -- ---- take: the tail's oldest frame comes out
 
 abbrev pub noTake : ℕ → TakeAnswer
 noTake k = record { frame = 0; refusal = k }
 
-abbrev pub takeFrom : Loop → Oldest → Outcome TakeAnswer
-takeFrom l Oldest.Empty = refuse empty
-takeFrom l (Oldest.Frame f) = done (record { frame = f; refusal = 0 }) (remove (size l) l)
+-- the tail lost f, its oldest frame
+abbrev pub takenFrom : Loop → ℕ → Outcome TakeAnswer
+takenFrom l f = done (record { frame = f; refusal = 0 }) (remove (size l) l)
 
 unfoldable pub takeIn : Loop → Outcome TakeAnswer
-takeIn l = takeFrom l (oldestOf (link l (size l)))
+takeIn l = ofOldest (takenFrom l) (oldestOf (link l (size l)))
 
 -- ---- hop: device i takes its oldest frame and sends one
 
@@ -75,22 +88,31 @@ sentBy i f l = takes (device l i) f
 abbrev pub passed : ℕ → ℕ → Loop → Loop
 passed i f l = add (suc i) (sentBy i f l .frame) (remove i (setDevice i (sentBy i f l .device) l))
 
-abbrev pub hopFrom : ℕ → Loop → Oldest → Outcome HopAnswer
-hopFrom i l Oldest.Empty = refuse empty
-hopFrom i l (Oldest.Frame f) =
-    cond (hasRoom (suc i) l) (done (hopAnswer (sentBy i f l .frame) (sentBy i f l .handed)) (passed i f l))
-    (refuse full)
+-- so it is done,
+abbrev pub passes : ℕ → ℕ → Loop → Outcome HopAnswer
+passes i f l = done (hopAnswer (sentBy i f l .frame) (sentBy i f l .handed)) (passed i f l)
+
+-- if the next link has room
+abbrev pub passesOn : ℕ → Loop → ℕ → Outcome HopAnswer
+passesOn i l f = intoRoom (passes i f l) (roomOf (link l (suc i)))
+
+-- and if there is an oldest frame
+abbrev pub hopFrom : Loop → ℕ → Outcome HopAnswer
+hopFrom l i = ofOldest (passesOn i l) (oldestOf (link l i))
 
 unfoldable pub hopIn : ℕ → Loop → Outcome HopAnswer
-hopIn i l = cond (ltb i (size l)) (hopFrom i l (oldestOf (link l i))) (refuse noDevice)
+hopIn i l = atPlace (hopFrom l) (placeOf l i)
 
 -- ---- local calls: device i is called, and refuses or becomes another
 
 abbrev pub calledIn : ℕ → Loop → Called → Outcome ℕ
 calledIn i l c = cond (eqb (c .refusal) 0) (done 0 (setDevice i (c .device) l)) (refuse (c .refusal))
 
+abbrev pub calledAt : (Device → Called) → Loop → ℕ → Outcome ℕ
+calledAt call l i = calledIn i l (call (device l i))
+
 unfoldable pub localIn : (Device → Called) → ℕ → Loop → Outcome ℕ
-localIn call i l = cond (ltb i (size l)) (calledIn i l (call (device l i))) (refuse noDevice)
+localIn call i l = atPlace (calledAt call l) (placeOf l i)
 
 -- ---- the calls on areas
 

@@ -1,14 +1,15 @@
 -- The drain (01, The calls): the highest-numbered device that can hop does, repeatedly.
 use Prim.Native.Nat.{ℕ, zero, suc}
 use mathlib.Core.List.{List}
-use mathlib.Core.Bool.{Bool, false, cond}
+use mathlib.Core.Bool.{Bool, true, false, cond}
 use lib.Dec.{eqb}
 use Rattle.area.specs.Loop.{Loop, size, link}
-use Rattle.area.specs.Lookup.{oldestOf}
+use Rattle.area.specs.Lookup.{oldestOf, roomOf}
 use Rattle.area.specs.declared.Oldest.{Oldest}
+use Rattle.area.specs.declared.Room.{Room}
 use Rattle.area.specs.declared.Place.{Place}
 use Rattle.calls.specs.Outcome.{Outcome, refuse, done, After, callOf}
-use Rattle.calls.specs.Calls.{hasRoom, hopIn}
+use Rattle.calls.specs.Calls.{hopIn}
 use Rattle.calls.specs.declared.HopAnswer.{HopAnswer}
 use Rattle.calls.specs.declared.DrainAnswer.{DrainAnswer}
 
@@ -25,10 +26,15 @@ byteHanded = 2
 abbrev pub noDrain : ℕ → DrainAnswer
 noDrain k = record { hops = 0; refusal = k; reason = 0; device = 0; byte = 0; end = 0 }
 
+-- there is room
+abbrev pub hasRoom : Room → Bool
+hasRoom Room.Full = false
+hasRoom (Room.Behind n) = true
+
 -- device i can hop: there is a frame for it, and room for the one that it sends
 abbrev pub canFrom : ℕ → Loop → Oldest → Bool
 canFrom i l Oldest.Empty = false
-canFrom i l (Oldest.Frame f) = hasRoom (suc i) l
+canFrom i l (Oldest.Frame f) = hasRoom (roomOf (link l (suc i)))
 
 unfoldable pub canHop : ℕ → Loop → Bool
 canHop i l = canFrom i l (oldestOf (link l i))
@@ -47,10 +53,11 @@ abbrev pub handedTo : ℕ → ℕ → HopAnswer → Loop → Outcome DrainAnswer
 handedTo i h r l = done
     (record { hops = h; refusal = 0; reason = byteHanded; device = i; byte = r .byte; end = r .end }) l
 
--- after a hop of device i, the h-th: it stops where a byte was handed, and else goes on
+-- device i's hop, after h others: it can hop, so it is not refused; the drain stops where a byte was handed, and else
+-- goes on
 abbrev pub turned : ℕ → ℕ → (Loop → Outcome DrainAnswer) → Loop → Outcome HopAnswer → Outcome DrainAnswer
-turned i h next l (refuse k) = next l
-turned i h next l (done r m) = cond (eqb (r .handed) 1) (handedTo i h r m) (next m)
+turned i h next l (refuse k) = stopped noHopLeft h l
+turned i h next l (done r m) = cond (eqb (r .handed) 1) (handedTo i (suc h) r m) (next m)
 
 -- one thing where there is no device, another by the device's number
 abbrev pub onPlace : {A : Type 0} → A → (ℕ → A) → Place → A
@@ -61,7 +68,7 @@ onPlace none some (Place.At i) = some i
 unfoldable pub drainFrom : ℕ → ℕ → Loop → Outcome DrainAnswer
 drainFrom zero h l = onPlace (stopped noHopLeft h l) (λ i. stopped budgetSpent h l) (highest (size l) l)
 drainFrom (suc b) h l =
-    onPlace (stopped noHopLeft h l) (λ i. turned i (suc h) (drainFrom b (suc h)) l (hopIn i l)) (highest (size l) l)
+    onPlace (stopped noHopLeft h l) (λ i. turned i h (drainFrom b (suc h)) l (hopIn i l)) (highest (size l) l)
 
 abbrev pub drainIn : ℕ → Loop → Outcome DrainAnswer
 drainIn b l = drainFrom b 0 l

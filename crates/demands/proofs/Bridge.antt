@@ -19,9 +19,11 @@ use Rattle.local.specs.Local.{Called}
 use Rattle.record.specs.Record.{deviceOf}
 use Rattle.area.specs.Loop.{Loop, device, link}
 use Rattle.area.specs.Lookup.{oldestOf, setDevice, setLink, add}
+use Rattle.area.specs.declared.Room.{Room}
+use Rattle.area.specs.declared.Place.{Place}
 use Rattle.calls.specs.Outcome.{Outcome, refuse, done}
-use Rattle.calls.specs.Calls.{hopAnswer, sentBy, passed, putIn, takeFrom, takeIn, hopFrom, hopIn}
-use Rattle.calls.specs.Calls.{calledIn, localIn}
+use Rattle.calls.specs.Calls.{atPlace, ofOldest, intoRoom, hopAnswer, putIn, takenFrom, takeIn, passes, passesOn}
+use Rattle.calls.specs.Calls.{hopFrom, hopIn, calledIn, calledAt, localIn}
 use Rattle.calls.specs.declared.HopAnswer.{HopAnswer}
 use Rattle.calls.specs.declared.TakeAnswer.{TakeAnswer}
 use Rattle.order.specs.Line as line
@@ -29,35 +31,36 @@ use Rattle.order.specs.Flat as flat
 use Rattle.order.specs.Flat.{Flat, putFlat, hopFrom as hopFromFlat, hopFlat}
 use Rattle.order.specs.Flat.{takeFrom as takeFromFlat, takeFlat, callFlat}
 use Rattle.order.specs.History.{listed}
-use Rattle.demands.specs.Histories.{Got, got, if, Local, calledBy, handedOver, acceptedBy, model}
+use Rattle.demands.specs.Histories.{Got, got, if, Local, calledBy, handedOver, acceptedBy, papers}
 
 -- a flat line as a loop, and the loop of a line
-abbrev pub loopFlat : Flat model → Loop
+abbrev pub loopFlat : Flat papers → Loop
 loopFlat x = record { devices = x .states; links = x .links }
 
-abbrev pub toLoop : line.Loop model → Loop
+abbrev pub toLoop : line.Loop papers → Loop
 toLoop l = loopFlat (flat.flat l)
 
 -- an outcome and what the line came to: both refuse, or both leave the same, and what is answered and what happened
 -- agree
-pub data Alike (A B : Type 0) (P : A → B → Type 0) : Outcome A → Option (Flat model × B) → Type 0 where
+pub data Alike (A B : Type 0) (P : A → B → Type 0) : Outcome A → Option (Flat papers × B) → Type 0 where
   both-refuse : (k : ℕ) → (k ≡ 0 → ⊥) → Alike A B P (refuse k) none
-  both-do : (r : A) (m : Loop) (x : Flat model) (b : B) → m ≡ loopFlat x → P r b → Alike A B P (done r m) (some (x, b))
+  both-do : (r : A) (m : Loop) (x : Flat papers) (b : B) → m ≡ loopFlat x → P r b → Alike A B P (done r m) (some (x, b))
 
 -- ---- put
 
 abbrev Fine : ℕ → Unit {0} → Type 0
 Fine r b = r ≡ 0
 
-abbrev bare : Option (Flat model) → Option (Flat model × Unit {0})
+abbrev bare : Option (Flat papers) → Option (Flat papers × Unit {0})
 bare o = Option·map (λ x. (x, tt)) o
 
-pub put-alike : (f : ℕ) (x : Flat model) → f < frames →
+pub put-alike : (f : ℕ) (x : Flat papers) → f < frames →
     Alike ℕ (Unit {0}) Fine (putIn f (loopFlat x)) (bare (putFlat x f))
 unfolding putIn
 put-alike f x h = rw (lt-ltb f frames h) (go (flat.room x 0))
   where
-    go : (t : Bool) → Alike ℕ (Unit {0}) Fine (cond t (done 0 (add 0 f (loopFlat x))) (refuse 6))
+    go : (t : Bool) → Alike ℕ (Unit {0}) Fine
+        (intoRoom (done 0 (add 0 f (loopFlat x))) (cond t (Room.Behind (length (flat.link x 0))) Room.Full))
         (bare (cond t (some (flat.add 0 f x)) none))
     go true = both-do 0 _ (flat.add 0 f x) tt refl refl
     go false = both-refuse 6 (λ z. omega arith)
@@ -67,12 +70,12 @@ put-alike f x h = rw (lt-ltb f frames h) (go (flat.room x 0))
 abbrev Took : TakeAnswer → ℕ → Type 0
 Took r f = (r .refusal ≡ 0) × (r .frame ≡ f)
 
-pub take-alike : (x : Flat model) → Alike TakeAnswer ℕ Took (takeIn (loopFlat x)) (takeFlat x)
+pub take-alike : (x : Flat papers) → Alike TakeAnswer ℕ Took (takeIn (loopFlat x)) (takeFlat x)
 unfolding takeIn
 take-alike x = go (flat.link x (length (x .states))) refl
   where
     go : (q : List ℕ) → flat.link x (length (x .states)) ≡ q →
-        Alike TakeAnswer ℕ Took (takeFrom (loopFlat x) (oldestOf q)) (takeFromFlat x q)
+        Alike TakeAnswer ℕ Took (ofOldest (takenFrom (loopFlat x)) (oldestOf q)) (takeFromFlat x q)
     go [] e = both-refuse 5 (λ z. omega arith)
     go (f ∷ q) e = both-do _ _ (flat.setLink (length (x .states)) q x) f
         (ap (λ (g : List ℕ). setLink (length (x .states)) (tail g) (loopFlat x)) e) (refl, refl)
@@ -102,7 +105,7 @@ hop-tells : (f : ℕ) (h : Handed) → Hopped (hopAnswer f h) (handedOver h)
 hop-tells f handed.Nothing = (refl, refl)
 hop-tells f (handed.Byte b e) = (refl, refl)
 
-pub hop-alike : (i : ℕ) (x : Flat model) → Alike HopAnswer (Option Got) Hopped (hopIn i (loopFlat x)) (hopFlat x i)
+pub hop-alike : (i : ℕ) (x : Flat papers) → Alike HopAnswer (Option Got) Hopped (hopIn i (loopFlat x)) (hopFlat x i)
 unfolding hopIn
 hop-alike i x = go (ltb i (length (x .states))) refl
   where
@@ -110,8 +113,7 @@ hop-alike i x = go (ltb i (length (x .states))) refl
     d = getD (x .states) i (deviceOf [])
 
     room : (f : ℕ) (q : List ℕ) → flat.link x i ≡ f ∷ q → (t : Bool) → Alike HopAnswer (Option Got) Hopped
-        (cond t (done (hopAnswer (sentBy i f (loopFlat x) .frame) (sentBy i f (loopFlat x) .handed))
-        (passed i f (loopFlat x))) (refuse 6))
+        (intoRoom (passes i f (loopFlat x)) (cond t (Room.Behind (length (flat.link x (suc i)))) Room.Full))
         (cond t (some (
           flat.add (suc i) (takes d f .frame) (flat.setLink i q (flat.setState i (takes d f .device) x)),
           handedOver (takes d f .handed),
@@ -124,19 +126,20 @@ hop-alike i x = go (ltb i (length (x .states))) refl
     room f q e false = both-refuse 6 (λ z. omega arith)
 
     from : (q : List ℕ) → flat.link x i ≡ q →
-        Alike HopAnswer (Option Got) Hopped (hopFrom i (loopFlat x) (oldestOf q)) (hopFromFlat x i (some d) q)
+        Alike HopAnswer (Option Got) Hopped (ofOldest (passesOn i (loopFlat x)) (oldestOf q))
+        (hopFromFlat x i (some d) q)
     from [] e = both-refuse 5 (λ z. omega arith)
     from (f ∷ q) e = room f q e (flat.room x (suc i))
 
     go : (t : Bool) → ltb i (length (x .states)) ≡ t →
-        Alike HopAnswer (Option Got) Hopped (cond t (hopFrom i (loopFlat x) (oldestOf (flat.link x i))) (refuse 3))
+        Alike HopAnswer (Option Got) Hopped (atPlace (hopFrom (loopFlat x)) (cond t (Place.At i) Place.NoDevice))
         (hopFlat x i)
     go true e = rw (there (x .states) i (deviceOf []) (ltb-true _ _ e)) (from (flat.link x i) refl)
     go false e = rw (gone (x .states) i (ltb-false _ _ e)) (both-refuse 3 (λ z. omega arith))
 
 -- ---- local calls
 
-called-alike : (i : ℕ) (x : Flat model) (c : Called) →
+called-alike : (i : ℕ) (x : Flat papers) (c : Called) →
     Alike ℕ (Unit {0}) Fine (calledIn i (loopFlat x) c) (bare (Option·map (λ s. flat.setState i s x) (acceptedBy c)))
 called-alike i x c = go (eqb (c .refusal) 0) refl
   where
@@ -146,14 +149,14 @@ called-alike i x c = go (eqb (c .refusal) 0) refl
     go true e = both-do 0 _ (flat.setState i (c .device) x) tt refl refl
     go false e = both-refuse (c .refusal) (eqb-false (c .refusal) 0 e)
 
-pub local-alike : (c : Local) (i : ℕ) (x : Flat model) →
+pub local-alike : (c : Local) (i : ℕ) (x : Flat papers) →
     Alike ℕ (Unit {0}) Fine (localIn (calledBy c) i (loopFlat x)) (bare (callFlat x i c))
 unfolding localIn
 local-alike c i x = go (ltb i (length (x .states))) refl
   where
     go : (t : Bool) → ltb i (length (x .states)) ≡ t →
-        Alike ℕ (Unit {0}) Fine (cond t (calledIn i (loopFlat x) (calledBy c (device (loopFlat x) i))) (refuse 3))
-        (bare (callFlat x i c))
+        Alike ℕ (Unit {0}) Fine
+        (atPlace (calledAt (calledBy c) (loopFlat x)) (cond t (Place.At i) Place.NoDevice)) (bare (callFlat x i c))
     go true e = rw (there (x .states) i (deviceOf []) (ltb-true _ _ e))
         (called-alike i x (calledBy c (getD (x .states) i (deviceOf []))))
     go false e = rw (gone (x .states) i (ltb-false _ _ e)) (both-refuse 3 (λ z. omega arith))

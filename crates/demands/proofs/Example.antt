@@ -1,4 +1,5 @@
 -- The worked example: both histories are computed on the bytes.
+use Prim.Native.Nat.{zero, suc}
 use mathlib.Core.Path.{refl}
 use Rattle.frame.specs.Messages.{messages, kindAt, lookup, within, firstIn, firstOf}
 use Rattle.device.specs.Choose.{choose}
@@ -16,20 +17,38 @@ use Rattle.area.specs.Link.{framesOf, linkOf, soundSlot, soundLink}
 use Rattle.area.specs.Loop.{loopOf, areaOf, shaped, sound, judgeOf}
 use Rattle.calls.specs.Outcome.{callOf}
 use Rattle.calls.specs.Calls.{putIn, takeIn, hopIn, localIn}
+use Rattle.calls.specs.Drain.{canHop, highest, drainFrom}
 use Rattle.calls.specs.SetUp.{itemsFit, setUpOf}
-use Rattle.demands.specs.Example.{Example}
+use Rattle.demands.specs.Histories.{areaLeft}
+use Rattle.demands.specs.Demands.{AllEmpty}
+use Rattle.demands.specs.Example.{fresh, mixed, Example}
+
+empty : AllEmpty (areaLeft fresh mixed)
+unfolding messages kindAt lookup within firstIn firstOf choose powerOn bytesFrom lad tad aau marked requested polls sst
+    nrd aad returned heard dataOrEnd takes loads deviceOf recordOf zeros soundDevice soundRecord allowed parts join all
+    framesOf linkOf soundSlot soundLink loopOf areaOf shaped sound judgeOf callOf putIn takeIn hopIn localIn itemsFit
+    setUpOf canHop highest drainFrom
+empty zero = refl
+empty (suc zero) = refl
+empty (suc (suc zero)) = refl
+empty (suc (suc (suc j))) = refl
 
 pub example : Example
 unfolding messages kindAt lookup within firstIn firstOf choose powerOn bytesFrom lad tad aau marked requested polls sst
     nrd aad returned heard dataOrEnd takes loads deviceOf recordOf zeros soundDevice soundRecord allowed parts join all
     framesOf linkOf soundSlot soundLink loopOf areaOf shaped sound judgeOf callOf putIn takeIn hopIn localIn itemsFit
-    setUpOf
+    setUpOf canHop highest drainFrom
 example =
     record {
-      in-turn = refl;
-      none-refused = refl;
-      same-area = refl;
+      set-up = refl;
+      all-empty = empty;
+      mixed-refused = refl;
       mixed-taken = refl;
+      mixed-handed = refl;
+      mixed-hops = refl;
+      round-refused = refl;
       round-taken = refl;
-      hops = refl;
+      round-handed = refl;
+      in-turn = refl;
+      same-area = refl;
     }

@@ -18,7 +18,7 @@ use Rattle.calls.specs.Outcome.{After, after}
 use Rattle.calls.specs.Calls.{noTake, noHop, refusal, putIn, takeIn, hopIn, localIn}
 use Rattle.calls.specs.Drain.{noDrain, drainIn}
 use Rattle.calls.specs.SetUp.{devicesFor, itemsFit, poweredOn, setUpOf}
-use Rattle.demands.specs.Calls.{Byte, numbers, Action, put, hop, take, load, status, wish, drain, Call, does}
+use Rattle.demands.specs.Calls.{Byte, numbers, Action, put, hop, take, load, status, wish, drain, Call, onArea}
 use Rattle.demands.specs.Calls.{setUp, decode, encode, Answer, plain, hopped, taken, drained, decoded, encoded}
 use Rattle.demands.specs.Calls.{pil, refusalIn, bare, acts}
 use Rattle.demands.specs.Conditions.{devicesAt, lowest}
@@ -39,8 +39,8 @@ module _ (a : List ℕ) where
   rows k = cond (eqb (devicesAt (length a)) 0 || not (eqb (length a) (areaSize (countIn a)))) 1
       (cond (not (sound a)) 2 k)
 
-  held : (c : Action) (k : ℕ) → Held (does c) a (acts c a) (cond (not (shaped a)) 1 (cond (not (sound a)) 2 k)) →
-      Held (does c) a (acts c a) (rows k)
+  held : (c : Action) (k : ℕ) → Held (onArea c) a (acts c a) (cond (not (shaped a)) 1 (cond (not (sound a)) 2 k)) →
+      Held (onArea c) a (acts c a) (rows k)
   unfolding rows
   held c k h = rw (shape-is a) h
 
@@ -48,20 +48,20 @@ module _ (a : List ℕ) where
       (refusalIn (plain (o .answer)) ≡ k) × ((k ≡ 0 → ⊥) → (plain (o .answer) ≡ plain k) × (o .area ≡ a))
   plainly k m = (m .refusal, λ z. (ap plain (m .refused z .0), m .refused z .1))
 
-  put-held : (f : ℕ) → Held (does (put f)) a (pil (does (put f)) a) (lowest (does (put f)) a)
+  put-held : (f : ℕ) → Held (onArea (put f)) a (pil (onArea (put f)) a) (lowest (onArea (put f)) a)
   unfolding rows
   put-held f =
       let m = call-met refusal refusal (λ k. refl) a (putIn f) _ (put-told f (loopOf a)) in
       let p = plainly _ m in held (put f) _ (record { refused = p .0; unchanged = p .1 })
 
-  take-held : Held (does take) a (pil (does take) a) (lowest (does take) a)
+  take-held : Held (onArea take) a (pil (onArea take) a) (lowest (onArea take) a)
   unfolding rows
   take-held =
       let t = rw (size-is a) at (take-told (loopOf a)) in
       let m = call-met _ noTake (λ k. refl) a takeIn _ t in
       held take _ (record { refused = m .refusal; unchanged = λ z. (ap taken (m .refused z .0), m .refused z .1) })
 
-  hop-held : (i : ℕ) → Held (does (hop i)) a (pil (does (hop i)) a) (lowest (does (hop i)) a)
+  hop-held : (i : ℕ) → Held (onArea (hop i)) a (pil (onArea (hop i)) a) (lowest (onArea (hop i)) a)
   unfolding rows
   hop-held i =
       let t = rw (size-is a) at (hop-told i (loopOf a)) in
@@ -69,7 +69,7 @@ module _ (a : List ℕ) where
       held (hop i) _ (record { refused = m .refusal; unchanged = λ z. (ap hopped (m .refused z .0), m .refused z .1) })
 
   load-held : (i : ℕ) (bs : List Byte) →
-      Held (does (load i bs)) a (pil (does (load i bs)) a) (lowest (does (load i bs)) a)
+      Held (onArea (load i bs)) a (pil (onArea (load i bs)) a) (lowest (onArea (load i bs)) a)
   unfolding rows
   load-held i bs =
       let t = rw (size-is a, load-refusal (device (loopOf a) i) (numbers bs)) at
@@ -78,7 +78,7 @@ module _ (a : List ℕ) where
       let p = plainly _ m in held (load i bs) _ (record { refused = p .0; unchanged = p .1 })
 
   status-held : (i : ℕ) (s : Byte) →
-      Held (does (status i s)) a (pil (does (status i s)) a) (lowest (does (status i s)) a)
+      Held (onArea (status i s)) a (pil (onArea (status i s)) a) (lowest (onArea (status i s)) a)
   unfolding rows
   status-held i s =
       let t = rw (size-is a, status-refusal (device (loopOf a) i) (s .value)) at
@@ -86,14 +86,14 @@ module _ (a : List ℕ) where
       let m = call-met refusal refusal (λ k. refl) a (localIn (λ d. setsStatus d (s .value)) i) _ t in
       let p = plainly _ m in held (status i s) _ (record { refused = p .0; unchanged = p .1 })
 
-  wish-held : (i w : ℕ) → Held (does (wish i w)) a (pil (does (wish i w)) a) (lowest (does (wish i w)) a)
+  wish-held : (i w : ℕ) → Held (onArea (wish i w)) a (pil (onArea (wish i w)) a) (lowest (onArea (wish i w)) a)
   unfolding rows
   wish-held i w =
       let t = rw (size-is a, wish-refusal (device (loopOf a) i) w) at (local-told (λ d. wishes d w) i (loopOf a)) in
       let m = call-met refusal refusal (λ k. refl) a (localIn (λ d. wishes d w) i) _ t in
       let p = plainly _ m in held (wish i w) _ (record { refused = p .0; unchanged = p .1 })
 
-  drain-held : (b : ℕ) → Held (does (drain b)) a (pil (does (drain b)) a) (lowest (does (drain b)) a)
+  drain-held : (b : ℕ) → Held (onArea (drain b)) a (pil (onArea (drain b)) a) (lowest (onArea (drain b)) a)
   unfolding rows
   drain-held b =
       let m = call-met _ noDrain (λ k. refl) a (drainIn b) _ (drain-told b 0 (loopOf a)) in
@@ -103,7 +103,7 @@ module _ (a : List ℕ) where
             (ap drained (m .refused z .0), m .refused z .1);
       })
 
-  action-held : (c : Action) → Held (does c) a (pil (does c) a) (lowest (does c) a)
+  action-held : (c : Action) → Held (onArea c) a (pil (onArea c) a) (lowest (onArea c) a)
   action-held (put f) = put-held f
   action-held (hop i) = hop-held i
   action-held take = take-held
@@ -202,7 +202,7 @@ encode-held k o a = rw (turned-lt o (codesOf k) 4 0) (go (ltb o (codesOf k)))
     go false = record { refused = refl; unchanged = λ z. (refl, refl) }
 
 call-held : (c : Call) (a : List ℕ) → Held c a (pil c a) (lowest c a)
-call-held (does c) a = action-held a c
+call-held (onArea c) a = action-held a c
 call-held (setUp items) a = set-up-held a items
 call-held (decode f) a = decode-held f a
 call-held (encode k o) a = encode-held k o a

@@ -4,6 +4,7 @@ pub mod Refusals
 pub mod Tests
 pub mod First
 pub mod Bridge
+pub mod ByHops
 pub mod Drains
 pub mod Settled
 pub mod Second

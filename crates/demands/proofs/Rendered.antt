@@ -1,7 +1,7 @@
 -- Histories on the areas of sound loops are histories of the line: in the area left, and in all that is read off the
 -- answers.
 use Prim.Native.Nat.{ℕ, zero, suc, _+_, _<_}
-use mathlib.Core.Path.{_≡_, refl, ap, _∙_}
+use mathlib.Core.Path.{_≡_, refl, sym, ap, _∙_}
 use mathlib.Core.Bool.{Bool, true, false}
 use mathlib.Core.List.{List, [], _∷_, _++_}
 use native.Mathlib.Omega.{arith}
@@ -18,17 +18,18 @@ use Rattle.calls.specs.Drain.{noDrain, drainIn}
 use Rattle.calls.proofs.Kept.{put-keeps, take-keeps, hop-keeps, drain-keeps}
 use Rattle.calls.proofs.Laws.{load-keeps, status-keeps, wish-keeps}
 use Rattle.order.specs.Line as line
-use Rattle.order.specs.Flat as flat
 use Rattle.order.specs.History as told
 use Rattle.order.specs.Through as order
-use Rattle.order.specs.Through.{Rendering, Writing, Every, FairCall, callsOf}
+use Rattle.order.specs.Through.{Rendering, Writing, Every, FairCall, Tells, callsOf}
 use Rattle.order.proofs.Flat.{same-flat}
 use Rattle.order.proofs.Through.{through, read-each, read-total}
+use Rattle.order.proofs.Turns.{calls-each}
 use Rattle.demands.specs.Calls.{Byte, numbers, Action, put, hop, take, load, status, wish, drain, Answer, plain}
 use Rattle.demands.specs.Calls.{hopped, taken, drained, acts}
 use Rattle.demands.specs.Histories.{if, history, putBy, takenBy, handedBy, hopsBy, each, total}
 use Rattle.demands.specs.Histories.{areaLeft, framesPut, framesTaken, bytesHanded, hopsMade, toLoad}
-use Rattle.demands.specs.Histories.{toStatus, toWish, model, calls, allCalls, lineOf, turnsOf, action}
+use Rattle.demands.specs.Histories.{toStatus, toWish, papers, calls, allCalls, lineOf, turnsOf, callBy}
+use Rattle.demands.specs.Histories.{turnBy, Drainless, turnsRead, callsAccepted, action}
 use Rattle.demands.proofs.Bridge.{toLoop}
 use Rattle.demands.proofs.Settled.{settle, onLoop, acts-on, fair, follows}
 
@@ -60,7 +61,7 @@ on-loop-sound (drain b) m s = settle-sound drained noDrain m (drainIn b m) (drai
 pub pair : {A B : Type 0} {x y : A} {v w : B} → x ≡ y → v ≡ w → _≡_ {A = A × B} (x, v) (y, w)
 pair e f = rw (e, f)
 
-abbrev pub R : Rendering model
+abbrev pub R : Rendering papers
 R =
     record {
       Area = List ℕ;
@@ -77,7 +78,7 @@ R =
 
 -- ---- every call of the line is an action
 
-pub writes : (c : line.Call model) → FairCall (λ f. f < frames) c → calls (action c) ≡ c ∷ []
+pub writes : (c : line.Call papers) → FairCall (λ f. f < frames) c → calls (action c) ≡ c ∷ []
 writes (line.put f) h = rw (lt-ltb f frames h)
 writes (line.hop i) h = refl
 writes line.take h = refl
@@ -86,14 +87,14 @@ writes (line.local i (toStatus s)) h = refl
 writes (line.local i (toWish w)) h = refl
 writes (line.drain b) h = refl
 
-pub puts-fair : (f : ℕ) → Every (FairCall {L = model} (λ g. g < frames)) (if (ltb f frames) (line.put f))
+pub puts-fair : (f : ℕ) → Every (FairCall {L = papers} (λ g. g < frames)) (if (ltb f frames) (line.put f))
 puts-fair f = go (ltb f frames) refl
   where
-    go : (t : Bool) → ltb f frames ≡ t → Every (FairCall {L = model} (λ g. g < frames)) (if t (line.put f))
+    go : (t : Bool) → ltb f frames ≡ t → Every (FairCall {L = papers} (λ g. g < frames)) (if t (line.put f))
     go true e = (ltb-true _ _ e, tt)
     go false e = tt
 
-pub fairs : (c : Action) → Every (FairCall {L = model} (λ f. f < frames)) (calls c)
+pub fairs : (c : Action) → Every (FairCall {L = papers} (λ f. f < frames)) (calls c)
 fairs (put f) = puts-fair f
 fairs (hop i) = (tt, tt)
 fairs take = (tt, tt)
@@ -113,7 +114,7 @@ same-history a (c ∷ cs) = rw (same-history (acts c a .area) cs)
 
 pub same-calls : (cs : List Action) → allCalls cs ≡ callsOf R cs
 same-calls [] = refl
-same-calls (c ∷ cs) = ap (λ (r : List (line.Call model)). calls c ++ r) (same-calls cs)
+same-calls (c ∷ cs) = ap (λ (r : List (line.Call papers)). calls c ++ r) (same-calls cs)
 
 same-each : {A : Type 0} (g : Action → Answer → List A) (cs : List Action) (rs : List Answer) →
     each g cs rs ≡ order.readEach R g cs rs
@@ -126,17 +127,22 @@ same-total g [] rs = refl
 same-total g (c ∷ cs) [] = refl
 same-total g (c ∷ cs) (r ∷ rs) = rw (same-total g cs rs)
 
+-- what holds of every call holds of every one of some
+every : {A : Type 0} {P : A → Type 0} → ((x : A) → P x) → (xs : List A) → Every P xs
+every h [] = tt
+every h (x ∷ xs) = (h x, every h xs)
+
 -- ---- what is seen of a history on the area of a sound line
 
-module _ (l : line.Loop model) (good : Sound-loop (toLoop l)) where
+module _ (l : line.Loop papers) (good : Sound-loop (toLoop l)) where
   x : List ℕ
   x = areaOf (toLoop l)
 
   pub line-is : lineOf (areaOf (toLoop l)) ≡ l
-  line-is = rw (loop-back (toLoop l) good) (same-flat model .same-loop l)
+  line-is = rw (loop-back (toLoop l) good) (same-flat papers .same-loop l)
 
   module _ (cs : List Action) where
-    es : List (line.Event model)
+    es : List (line.Event papers)
     es = (line.run l (callsOf R cs)) .1
 
     pub area-is : areaLeft (areaOf (toLoop l)) cs ≡ areaOf (toLoop ((line.run l (callsOf R cs)) .0))
@@ -145,15 +151,19 @@ module _ (l : line.Loop model) (good : Sound-loop (toLoop l)) where
     pub good-is : Sound-loop (toLoop ((line.run l (callsOf R cs)) .0))
     good-is = (through R l cs good) .1
 
-    read : {A : Type 0} (g : Action → Answer → List A) (e : line.Event model → List A) →
-        ((m : line.Loop model) (c : Action) →
+    read-those : {A : Type 0} (g : Action → Answer → List A) (e : line.Event papers → List A) →
+        Every (Tells R g e) cs →
+        each g cs ((history (areaOf (toLoop l)) cs) .1) ≡ told.each e ((line.run l (callsOf R cs)) .1)
+    read-those {A} g e h = rw (same-history (areaOf (toLoop l)) cs) (same-each g cs _ ∙ read-each R A g e cs h l good)
+
+    read : {A : Type 0} (g : Action → Answer → List A) (e : line.Event papers → List A) →
+        ((m : line.Loop papers) (c : Action) →
         g c ((onLoop c (toLoop m)) .1) ≡ told.each e ((line.run m (calls c)) .1)) →
         each g cs ((history (areaOf (toLoop l)) cs) .1) ≡ told.each e ((line.run l (callsOf R cs)) .1)
-    read {A} g e h = rw (same-history (areaOf (toLoop l)) cs)
-        (same-each g cs _ ∙ read-each R A g e (λ m c u. h m c) l cs good)
+    read g e h = read-those g e (every (λ c m u. h m c) cs)
 
-    pub count : (g : Action → Answer → ℕ) (e : line.Event model → ℕ) →
-        ((m : line.Loop model) (c : Action) →
+    pub count : (g : Action → Answer → ℕ) (e : line.Event papers → ℕ) →
+        ((m : line.Loop papers) (c : Action) →
         g c ((onLoop c (toLoop m)) .1) ≡ told.total e ((line.run m (calls c)) .1)) →
         total g cs ((history (areaOf (toLoop l)) cs) .1) ≡ told.total e ((line.run l (callsOf R cs)) .1)
     count g e h = rw (same-history (areaOf (toLoop l)) cs)
@@ -173,3 +183,17 @@ module _ (l : line.Loop model) (good : Sound-loop (toLoop l)) where
 
     pub turns-are : (i : ℕ) → turnsOf (areaOf (toLoop l)) cs i ≡ told.turns ((line.run l (callsOf R cs)) .1) i
     turns-are i = rw (line-is, same-calls cs)
+
+    -- its turns, as its caller sees them
+    pub turns-seen : Drainless cs → (i : ℕ) →
+        turnsRead (areaOf (toLoop l)) cs i ≡ told.turns ((line.run l (callsOf R cs)) .1) i
+    turns-seen d i = read-those (turnBy i) (λ e. told.turnBy i e) (tell cs d)
+      where
+        tell : (ds : List Action) → Drainless ds → Every (Tells R (turnBy i) (λ e. told.turnBy i e)) ds
+        tell [] u = tt
+        tell (c ∷ ds) u = (λ m g. follows c m .reads .turned (u .0) i, tell ds (u .1))
+
+    pub calls-seen : (i : ℕ) → callsAccepted (areaOf (toLoop l)) cs i ≡
+        told.callsIn (told.turns ((line.run l (callsOf R cs)) .1) i)
+    calls-seen i = read (callBy i) (λ e. told.callsIn (told.turnBy i e)) (λ m c. follows c m .reads .called i)
+        ∙ sym (calls-each ((line.run l (callsOf R cs)) .1) i)

@@ -23,12 +23,13 @@ use Rattle.order.specs.History as told
 use Rattle.order.specs.History.{ifSame, listed}
 use Rattle.order.specs.Order.{handedAt}
 use Rattle.order.proofs.Flat.{same-flat}
-use Rattle.order.proofs.Drain.{drain-is-hops, drain-stops}
+use Rattle.order.proofs.Drain.{none-same, drain-is-hops, drain-stops}
 use Rattle.order.proofs.Through.{each-append}
+use Rattle.order.proofs.Turns.{here, elsewhere}
 use Rattle.demands.specs.Calls.{numbers, Action, put, hop, take, load, status, wish, drain, Answer, plain, hopped}
 use Rattle.demands.specs.Calls.{taken, drained, acts}
 use Rattle.demands.specs.Histories.{Got, got, if, putBy, takenBy, handedBy, hopsBy, refusedBy, Local, toLoad}
-use Rattle.demands.specs.Histories.{toStatus, toWish, model, calls}
+use Rattle.demands.specs.Histories.{toStatus, toWish, papers, calls, hopBy, callBy, turnBy, isDrain}
 use Rattle.demands.proofs.Bridge.{toLoop, Alike, both-refuse, both-do, handedIn, put-alike, take-alike}
 use Rattle.demands.proofs.Bridge.{hop-alike, local-alike}
 use Rattle.demands.proofs.Drains.{drainAnswer, drained-alike}
@@ -87,16 +88,18 @@ fair (status i s) = true
 fair (wish i w) = true
 fair (drain b) = true
 
-pub record Reads (c : Action) (r : Answer) (es : List (line.Event model)) : Type 0 where
+pub record Reads (c : Action) (r : Answer) (es : List (line.Event papers)) : Type 0 where
   pub puts : putBy c r ≡ told.puts es
   pub taken : takenBy c r ≡ told.taken es
   pub handed : (i : ℕ) → handedBy i c r ≡ told.handed es i
+  pub called : (i : ℕ) → callBy i c r ≡ told.each (λ e. told.callsIn (told.turnBy i e)) es
+  pub turned : isDrain c ≡ false → (i : ℕ) → turnBy i c r ≡ told.turns es i
   pub hops : hopsBy c r ≡ told.hopsMade es
   pub refused : cond (fair c) (refusedBy c r) 0 ≡ told.refusals es
 
 -- the loop after an action is that of the line after its calls, and its answer tells what happened
-pub record Follows (c : Action) (l : line.Loop model) (p : Loop × Answer)
-    (q : line.Loop model × List (line.Event model)) : Type 0 where
+pub record Follows (c : Action) (l : line.Loop papers) (p : Loop × Answer)
+    (q : line.Loop papers × List (line.Event papers)) : Type 0 where
   pub loop : p .0 ≡ toLoop (q .0)
   pub reads : Reads c (p .1) (q .1)
 
@@ -109,8 +112,31 @@ no-if k x h = rw (ne-eqb k 0 h)
 is-if : {A : Type 0} (k : ℕ) (x : A) → k ≡ 0 → if (eqb k 0) x ≡ x ∷ []
 is-if k x h = rw (eq-eqb k 0 h)
 
+-- the same device, or another
+same-device : {A : Type 0} (i j : ℕ) (t : Bool) (x : A) → if (eqb i j && t) x ≡ ifSame i j (if t x)
+same-device i j t x = go (eqb i j) refl
+  where
+    go : (s : Bool) → eqb i j ≡ s → if (s && t) x ≡ ifSame i j (if t x)
+    go true e = let z : i ≡ j = eqb-true i j e in rw z (sym (here j (if t x)))
+    go false e = sym (elsewhere i j (if t x) (eqb-false i j e))
+
+-- what is made of nothing where the numbers differ
+same-map : {A B : Type 0} (g : List A → List B) (i j : ℕ) (xs : List A) → g [] ≡ [] →
+    g (ifSame i j xs) ≡ ifSame i j (g xs)
+same-map g zero zero xs e = refl
+same-map g zero (suc j) xs e = e
+same-map g (suc i) zero xs e = e
+same-map g (suc i) (suc j) xs e = same-map g i j xs e
+
+-- what is read where a call is refused, and where it is accepted
+refused-same : {A : Type 0} (i j k : ℕ) (x : A) → (k ≡ 0 → ⊥) → if (eqb i j && eqb k 0) x ≡ []
+refused-same i j k x h = rw (ne-eqb k 0 h, and-false (eqb i j))
+
+accepted-same : {A : Type 0} (i j k : ℕ) (x : A) → k ≡ 0 → if (eqb i j && eqb k 0) x ≡ ifSame i j (x ∷ [])
+accepted-same i j k x h = rw (eq-eqb k 0 h) (same-device i j true x)
+
 -- put
-put-follows : (f : ℕ) (l : line.Loop model) (o : Outcome ℕ) (p : Option (line.Loop model)) → ltb f frames ≡ true →
+put-follows : (f : ℕ) (l : line.Loop papers) (o : Outcome ℕ) (p : Option (line.Loop papers)) → ltb f frames ≡ true →
     Alike ℕ (Unit {0}) (λ r b. r ≡ 0) o (Option·map (λ x. (x, tt)) (Option·map (λ l′. flat.flat l′) p)) →
     Follows (put f) l (settle plain refusal (toLoop l) o)
     (line.firstly ((line.reply l (Option·map (λ l′. (l′, line.was-put f)) p)) .1)
@@ -122,6 +148,8 @@ put-follows f l o none h (both-refuse k z) =
         puts = no-if k f z;
         taken = refl;
         handed = λ i. refl;
+        called = λ i. refl;
+        turned = λ q i. refl;
         hops = refl;
         refused = rw h
             (not-zero k z);
@@ -134,14 +162,18 @@ put-follows f l o (some q) h (both-do r m x b e t) =
         puts = is-if r f t;
         taken = refl;
         handed = λ i. refl;
+        called = λ i. refl;
+        turned = λ q i. refl;
         hops = refl;
         refused = rw (h, t);
       };
     }
 
 -- a local call, whichever it is
-module _ (c : Action) (i : ℕ) (x : Local) (fine : fair c ≡ true) (quiet : (k : ℕ) → putBy c (plain k) ≡ []) where
-  local-follows : (l : line.Loop model) (o : Outcome ℕ) (p : Option (line.Loop model)) →
+module _ (c : Action) (i : ℕ) (x : Local) (fine : fair c ≡ true) (quiet : (k : ℕ) → putBy c (plain k) ≡ [])
+    (calls : (j k : ℕ) → callBy j c (plain k) ≡ if (eqb j i && eqb k 0) x)
+    (still : (j k : ℕ) → hopBy j c (plain k) ≡ []) where
+  local-follows : (l : line.Loop papers) (o : Outcome ℕ) (p : Option (line.Loop papers)) →
       Alike ℕ (Unit {0}) (λ r b. r ≡ 0) o (Option·map (λ y. (y, tt)) (Option·map (λ l′. flat.flat l′) p)) →
       Follows c l (settle plain refusal (toLoop l) o)
       (line.firstly ((line.reply l (Option·map (λ l′. (l′, line.called i x)) p)) .1)
@@ -153,6 +185,8 @@ module _ (c : Action) (i : ℕ) (x : Local) (fine : fair c ≡ true) (quiet : (k
           puts = quiet k;
           taken = refl;
           handed = λ j. refl;
+          called = λ j. calls j k ∙ refused-same j i k x z;
+          turned = λ q j. rw (still j k, calls j k, refused-same j i k x z);
           hops = refl;
           refused = rw fine
               (not-zero k z);
@@ -165,6 +199,10 @@ module _ (c : Action) (i : ℕ) (x : Local) (fine : fair c ≡ true) (quiet : (k
           puts = quiet r;
           taken = refl;
           handed = λ j. refl;
+          called = λ j. calls j r ∙ accepted-same j i r x t
+              ∙ sym (append-nil _ ∙ same-map (λ u. told.callsIn u) j i (told.does x ∷ []) refl);
+          turned = λ q j. rw (still j r, calls j r, accepted-same j i r x t)
+              (same-map (λ u. map (λ (y : Local). told.does y) u) j i (x ∷ []) refl ∙ sym (append-nil _));
           hops = refl;
           refused = rw
               (fine, t);
@@ -172,7 +210,7 @@ module _ (c : Action) (i : ℕ) (x : Local) (fine : fair c ≡ true) (quiet : (k
       }
 
 -- take
-take-follows : (l : line.Loop model) (o : Outcome TakeAnswer) (p : Option (line.Loop model × ℕ)) →
+take-follows : (l : line.Loop papers) (o : Outcome TakeAnswer) (p : Option (line.Loop papers × ℕ)) →
     Alike TakeAnswer ℕ (λ r f. (r .refusal ≡ 0) × (r .frame ≡ f)) o (Option·map (λ q. (flat.flat (q .0), q .1)) p) →
     Follows take l (settle taken noTake (toLoop l) o)
     (line.firstly ((line.reply l (Option·map (λ q. (q .0, line.was-taken (q .1))) p)) .1)
@@ -180,7 +218,16 @@ take-follows : (l : line.Loop model) (o : Outcome TakeAnswer) (p : Option (line.
 take-follows l o none (both-refuse k z) =
     record {
       loop = refl;
-      reads = record { puts = refl; taken = no-if k 0 z; handed = λ i. refl; hops = refl; refused = not-zero k z };
+      reads =
+          record {
+            puts = refl;
+            taken = no-if k 0 z;
+            handed = λ i. refl;
+            called = λ i. refl;
+            turned = λ q i. refl;
+            hops = refl;
+            refused = not-zero k z;
+          };
     }
 take-follows l o (some q) (both-do r m x b e t) =
     record {
@@ -190,36 +237,14 @@ take-follows l o (some q) (both-do r m x b e t) =
         taken = is-if (r .refusal) (r .frame) (t .0)
             ∙ ap (λ (f : ℕ). f ∷ []) (t .1);
         handed = λ i. refl;
+        called = λ i. refl;
+        turned = λ q i. refl;
         hops = refl;
         refused = rw (t .0);
       };
     }
 
--- hop
-here : {A : Type 0} (i : ℕ) (xs : List A) → ifSame i i xs ≡ xs
-here zero xs = refl
-here (suc i) xs = here i xs
-
-elsewhere : {A : Type 0} (i j : ℕ) (xs : List A) → (i ≡ j → ⊥) → ifSame i j xs ≡ []
-elsewhere zero zero xs h = absurd (h refl)
-elsewhere zero (suc j) xs h = refl
-elsewhere (suc i) zero xs h = refl
-elsewhere (suc i) (suc j) xs h = elsewhere i j xs (λ e. h (ap suc e))
-
-same-device : {A : Type 0} (i j : ℕ) (t : Bool) (x : A) → if (eqb i j && t) x ≡ ifSame i j (if t x)
-same-device i j t x = go (eqb i j) refl
-  where
-    go : (s : Bool) → eqb i j ≡ s → if (s && t) x ≡ ifSame i j (if t x)
-    go true e = let z : i ≡ j = eqb-true i j e in rw z (sym (here j (if t x)))
-    go false e = sym (elsewhere i j (if t x) (eqb-false i j e))
-
-none-same : {A : Type 0} (i j : ℕ) → ifSame {A = A} i j [] ≡ []
-none-same zero zero = refl
-none-same zero (suc j) = refl
-none-same (suc i) zero = refl
-none-same (suc i) (suc j) = none-same i j
-
-hop-follows : (j : ℕ) (l : line.Loop model) (o : Outcome HopAnswer) (p : Option (line.Loop model × Option Got)) →
+hop-follows : (j : ℕ) (l : line.Loop papers) (o : Outcome HopAnswer) (p : Option (line.Loop papers × Option Got)) →
     Alike HopAnswer (Option Got) (λ r b. (r .refusal ≡ 0) × (handedIn r ≡ listed b)) o
     (Option·map (λ q. (flat.flat (q .0), q .1)) p) →
     Follows (hop j) l (settle hopped noHop (toLoop l) o)
@@ -233,6 +258,8 @@ hop-follows j l o none (both-refuse k z) =
         taken = refl;
         handed = λ i. same-device i j false (got 0 0)
             ∙ none-same i j;
+        called = λ i. refl;
+        turned = λ q i. rw (refused-same {A = told.Turn papers} i j k told.hops z);
         hops = rw (ne-eqb k 0 z);
         refused = not-zero k z;
       };
@@ -246,103 +273,122 @@ hop-follows j l o (some q) (both-do r m x b e t) =
             taken = refl;
             handed = λ i. same-device i j (eqb (r .handed) 1) (got (r .byte) (r .end))
                 ∙ ap (λ (g : List Got). ifSame i j g) (t .1) ∙ sym (append-nil (ifSame i j (listed (q .1))));
+            called = λ i. sym (append-nil _
+                ∙ same-map (λ (u : List (told.Turn papers)). told.callsIn u) i j (told.hops ∷ []) refl
+                ∙ none-same i j);
+            turned = λ w i. append-nil _ ∙ accepted-same i j (r .refusal) told.hops (t .0) ∙ sym (append-nil _);
             hops = rw (t .0);
             refused = rw (t .0);
           };
     }
 
--- drain: a row of hops puts nothing and takes nothing out
-module _ where
-  hop-quiet : (l : line.Loop model) (i : ℕ) →
-      (told.puts ((line.answer l (line.hop i)) .1) ≡ []) × (told.taken ((line.answer l (line.hop i)) .1) ≡ [])
+-- drain: of a row of hops nothing is read that is not read of a hop
+module _ {A : Type 0} (g : line.Event papers → List A) (never : g line.refused ≡ [])
+    (nor : (i : ℕ) (h : Option Got) → g (line.hopped i h) ≡ []) where
+  hop-quiet : (l : line.Loop papers) (i : ℕ) → told.each g ((line.answer l (line.hop i)) .1) ≡ []
   hop-quiet l i = go (line.hopAt l i)
     where
-      go : (o : Option (line.Loop model × Option Got)) →
-          (told.puts ((line.reply l (Option·map (λ p. (p .0, line.hopped i (p .1))) o)) .1) ≡ []) ×
-          (told.taken ((line.reply l (Option·map (λ p. (p .0, line.hopped i (p .1))) o)) .1) ≡ [])
-      go none = (refl, refl)
-      go (some p) = (refl, refl)
+      go : (o : Option (line.Loop papers × Option Got)) →
+          told.each g ((line.reply l (Option·map (λ p. (p .0, line.hopped i (p .1))) o)) .1) ≡ []
+      go none = append-nil _ ∙ never
+      go (some p) = append-nil _ ∙ nor i (p .1)
 
-  hops-quiet : (l : line.Loop model) (is : List ℕ) →
-      (told.puts ((line.run l (map line.hop is)) .1) ≡ []) × (told.taken ((line.run l (map line.hop is)) .1) ≡ [])
-  hops-quiet l [] = (refl, refl)
+  hops-quiet : (l : line.Loop papers) (is : List ℕ) → told.each g ((line.run l (map line.hop is)) .1) ≡ []
+  hops-quiet l [] = refl
   hops-quiet l (i ∷ is) =
-      let p = hop-quiet l i in
-      let q = hops-quiet ((line.answer l (line.hop i)) .0) is in
-      let es = (line.answer l (line.hop i)) .1 in
-      let fs = (line.run ((line.answer l (line.hop i)) .0) (map line.hop is)) .1 in (
-        each-append (λ e. told.putBy e) es fs ∙ rw (p .0) (q .0),
-        each-append (λ e. told.takenBy e) es fs
-            ∙ rw (p .1) (q .1),
-      )
+      each-append g ((line.answer l (line.hop i)) .1) _
+      ∙ rw (hop-quiet l i) (hops-quiet ((line.answer l (line.hop i)) .0) is)
 
-handed-at : (i h b : ℕ) (why : line.Stop model) →
-    handedBy i (drain b) (drained (drainAnswer h why)) ≡ handedAt model i why
+  drain-quiet : (l : line.Loop papers) (b : ℕ) → [] ≡ told.each g ((line.draining b l) .events)
+  drain-quiet l b =
+      let h = drain-is-hops papers b l in
+      sym (ap (λ (p : line.Loop papers × List (line.Event papers)). told.each g (p .1)) (sym (h .1))
+      ∙ hops-quiet l (h .0))
+
+handed-at : (i h b : ℕ) (why : line.Stop papers) →
+    handedBy i (drain b) (drained (drainAnswer h why)) ≡ handedAt papers i why
 handed-at i h b line.no-hop = rw (and-false (eqb i 0))
 handed-at i h b line.spent = rw (and-false (eqb i 0))
 handed-at i h b (line.handing j x) = same-device i j true x
 
-drain-follows : (b : ℕ) (l : line.Loop model) →
+drain-follows : (b : ℕ) (l : line.Loop papers) →
     Follows (drain b) l (settle drained noDrain (toLoop l) (drainIn b (toLoop l))) (line.run l (line.drain b ∷ []))
 drain-follows b l =
     let d = line.draining b l in
     let es = d .events in
-    let h = drain-is-hops model b l in
-    let q = hops-quiet l (h .0) in
     rw (drained-alike b 0 l, append-nil es)
     (record {
       loop = refl;
       reads =
           record {
-            puts = sym (ap (λ (p : line.Loop model × List (line.Event model)). told.puts (p .1)) (sym (h .1)) ∙ q .0);
-            taken = sym (ap (λ (p : line.Loop model × List (line.Event model)). told.taken (p .1)) (sym (h .1)) ∙ q .1);
-            handed = λ i. handed-at i (0 + told.hopsMade es) b (d .stop) ∙ sym (drain-stops model b l .alone i);
+            puts = drain-quiet (λ e. told.putBy e) refl (λ i h. refl) l b;
+            taken = drain-quiet (λ e. told.takenBy e) refl (λ i h. refl) l b;
+            handed = λ i. handed-at i (0 + told.hopsMade es) b (d .stop) ∙ sym (drain-stops papers b l .alone i);
+            called = λ i. drain-quiet (λ e. told.callsIn (told.turnBy i e)) refl (λ j h. no-call i j) l b;
+            turned = λ q i. let z : true ≡ false = q in let y : _≡_ {A = ℕ} 0 1 = cc in absurd (omega arith);
             hops = hops-told (told.hopsMade es) (d .stop);
-            refused = refused-told (told.hopsMade es) (d .stop) ∙ sym (h .2);
+            refused = refused-told (told.hopsMade es) (d .stop) ∙ sym ((drain-is-hops papers b l) .2);
           };
     })
   where
-    hops-told : (n : ℕ) (why : line.Stop model) → drainAnswer (0 + n) why .hops ≡ n
+    no-call : (i j : ℕ) → told.callsIn (ifSame {A = told.Turn papers} i j (told.hops ∷ [])) ≡ []
+    no-call i j =
+        same-map (λ (u : List (told.Turn papers)). told.callsIn u) i j (told.hops ∷ []) refl ∙ none-same i j
+
+    hops-told : (n : ℕ) (why : line.Stop papers) → drainAnswer (0 + n) why .hops ≡ n
     hops-told n line.no-hop = omega arith
     hops-told n line.spent = omega arith
     hops-told n (line.handing j x) = omega arith
 
-    refused-told : (n : ℕ) (why : line.Stop model) → _≡_ {A = ℕ} (cond (eqb (drainAnswer (0 + n) why .refusal) 0) 0 1) 0
+    refused-told : (n : ℕ) (why : line.Stop papers) →
+        _≡_ {A = ℕ} (cond (eqb (drainAnswer (0 + n) why .refusal) 0) 0 1) 0
     refused-told n line.no-hop = refl
     refused-told n line.spent = refl
     refused-told n (line.handing j x) = refl
 
 -- a put of what is no frame refuses, and is no call of the line
-bad-follows : (f : ℕ) (l : line.Loop model) → ltb f frames ≡ false →
+bad-follows : (f : ℕ) (l : line.Loop papers) → ltb f frames ≡ false →
     Follows (put f) l (settle plain refusal (toLoop l) (putIn f (toLoop l))) (l, [])
 unfolding putIn
 bad-follows f l e = rw e
     (record {
       loop = refl;
-      reads = record { puts = refl; taken = refl; handed = λ i. refl; hops = refl; refused = rw e };
+      reads =
+          record {
+            puts = refl;
+            taken = refl;
+            handed = λ i. refl;
+            called = λ i. refl;
+            turned = λ q i. refl;
+            hops = refl;
+            refused = rw e;
+          };
     })
 
 -- ---- every action
 
-pub follows : (c : Action) (l : line.Loop model) → Follows c l (onLoop c (toLoop l)) (line.run l (calls c))
+pub follows : (c : Action) (l : line.Loop papers) → Follows c l (onLoop c (toLoop l)) (line.run l (calls c))
 follows (put f) l = go (ltb f frames) refl
   where
     go : (t : Bool) → ltb f frames ≡ t →
         Follows (put f) l (settle plain refusal (toLoop l) (putIn f (toLoop l))) (line.run l (if t (line.put f)))
     go true e = put-follows f l (putIn f (toLoop l)) (line.push l f) e
-        (rw (same-flat model .same-put l f) at (put-alike f (flat.flat l) (ltb-true _ _ e)))
+        (rw (same-flat papers .same-put l f) at (put-alike f (flat.flat l) (ltb-true _ _ e)))
     go false e = bad-follows f l e
 follows (hop i) l = hop-follows i l (hopIn i (toLoop l)) (line.hopAt l i)
-    (rw (same-flat model .same-hop l i) at (hop-alike i (flat.flat l)))
+    (rw (same-flat papers .same-hop l i) at (hop-alike i (flat.flat l)))
 follows take l = take-follows l (takeIn (toLoop l)) (line.takeOut l)
-    (rw (same-flat model .same-take l) at (take-alike (flat.flat l)))
+    (rw (same-flat papers .same-take l) at (take-alike (flat.flat l)))
 follows (load i bs) l =
-    local-follows (load i bs) i (toLoad bs) refl (λ k. refl) l _ (line.callAt l i (toLoad bs))
-    (rw (same-flat model .same-call l i (toLoad bs)) at (local-alike (toLoad bs) i (flat.flat l)))
+    local-follows (load i bs) i (toLoad bs) refl (λ k. refl) (λ j k. refl) (λ j k. refl) l _
+    (line.callAt l i (toLoad bs))
+    (rw (same-flat papers .same-call l i (toLoad bs)) at (local-alike (toLoad bs) i (flat.flat l)))
 follows (status i s) l =
-    local-follows (status i s) i (toStatus s) refl (λ k. refl) l _ (line.callAt l i (toStatus s))
-    (rw (same-flat model .same-call l i (toStatus s)) at (local-alike (toStatus s) i (flat.flat l)))
+    local-follows (status i s) i (toStatus s) refl (λ k. refl) (λ j k. refl) (λ j k. refl) l _
+    (line.callAt l i (toStatus s))
+    (rw (same-flat papers .same-call l i (toStatus s)) at (local-alike (toStatus s) i (flat.flat l)))
 follows (wish i w) l =
-    local-follows (wish i w) i (toWish w) refl (λ k. refl) l _ (line.callAt l i (toWish w))
-    (rw (same-flat model .same-call l i (toWish w)) at (local-alike (toWish w) i (flat.flat l)))
+    local-follows (wish i w) i (toWish w) refl (λ k. refl) (λ j k. refl) (λ j k. refl) l _
+    (line.callAt l i (toWish w))
+    (rw (same-flat papers .same-call l i (toWish w)) at (local-alike (toWish w) i (flat.flat l)))
 follows (drain b) l = drain-follows b l

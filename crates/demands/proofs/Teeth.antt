@@ -1,30 +1,190 @@
--- What the demands shut out: each by one case, computed.
-use mathlib.Core.Path.{refl}
+-- What the demands shut out: each by a small loop, on which a call's outcome is computed.
+use Prim.Native.Nat.{ℕ, zero, suc, _<_}
+use mathlib.Core.Path.{_≡_, refl, sym, ap, _∙_}
+use mathlib.Core.Bool.{Bool, true, cond}
+use mathlib.Core.Option.{Option, none, some}
+use mathlib.Core.List.{List, [], _∷_}
 use native.Mathlib.Omega.{arith}
+use lib.Dec.{eqb, ltb}
+use borrow.Author.Tests.{ltb-true}
 use Rattle.frame.specs.Messages.{messages, kindAt, lookup, within, firstIn, firstOf}
 use Rattle.device.specs.Choose.{choose}
 use Rattle.device.specs.PowerOn.{powerOn, bytesFrom}
 use Rattle.device.specs.Ready.{aad}
 use Rattle.device.specs.Take.{takes}
+use Rattle.device.specs.declared.Device.{Device}
+use Rattle.device.specs.declared.Handed.{Handed}
+use Rattle.device.specs.declared.Handed.the-variants as handed
 use Rattle.record.specs.Record.{deviceOf, recordOf, zeros}
+use Rattle.record.specs.Parts.{splice}
 use Rattle.record.specs.Sound.{soundDevice, soundRecord}
+use Rattle.record.specs.Fits.{Bytes}
+use Rattle.record.proofs.Both.{left, right}
 use Rattle.area.specs.Parts.{parts, join, all}
 use Rattle.area.specs.Link.{framesOf, linkOf, soundSlot, soundLink}
-use Rattle.area.specs.Loop.{loopOf, areaOf, shaped, sound, judgeOf}
-use Rattle.calls.specs.Outcome.{callOf}
-use Rattle.calls.specs.Calls.{hopIn}
-use Rattle.demands.specs.Calls.{decode}
-use Rattle.demands.specs.Teeth.{RefuserShutOut, LowestGiven, SomeFrameChanges}
-use mathlib.Core.List.{[]}
+use Rattle.area.specs.Loop.{countIn, loopOf, areaOf, shaped, sound, judgeOf, device, link}
+use Rattle.calls.specs.Outcome.{After, callOf}
+use Rattle.calls.specs.Calls.{hopAnswer, hopIn}
+use Rattle.demands.specs.Calls.{Action, put, hop, drain, onArea, Answer, hopped, refusalIn}
+use Rattle.demands.specs.Histories.{Got, handedBy, hopsBy}
+use Rattle.demands.specs.Drains.{stopsBefore, can, highest, afterHop, byHops}
+use Rattle.demands.specs.Conditions.{lowest}
+use Rattle.demands.specs.Demands.{CanHop, ruled, hopLeaves, Obeys}
+use Rattle.demands.specs.Teeth.{RefuserShutOut, LowestGiven, frameIn, PasserShutOut, WorkerShutOut}
+use Rattle.demands.specs.Teeth.{InventedCountShutOut}
+use Rattle.demands.proofs.Tests.{hop-done}
+
+-- ---- two loops: fresh devices that can be auto-addressed, and AAD 0 before the first
+
+abbrev fresh : Device
+fresh = powerOn (32 ∷ 31 ∷ [])
+
+abbrev one : List ℕ
+one = areaOf (record { devices = fresh ∷ []; links = (0x580 ∷ []) ∷ [] ∷ [] })
+
+abbrev two : List ℕ
+two = areaOf (record { devices = fresh ∷ fresh ∷ []; links = (0x580 ∷ []) ∷ [] ∷ [] ∷ [] })
+
+are-bytes : (b : List ℕ) → all (λ x. ltb x 256) b ≡ true → Bytes b
+unfolding all
+are-bytes [] h i = omega arith
+are-bytes (x ∷ b) h zero = ltb-true x 256 (left (ltb x 256) _ h)
+are-bytes (x ∷ b) h (suc i) = are-bytes b (right (ltb x 256) _ h) i
+
+one-can : CanHop 0 0x580 [] one
+unfolding powerOn bytesFrom deviceOf recordOf zeros soundDevice soundRecord parts join all framesOf linkOf soundSlot
+    soundLink loopOf areaOf shaped sound judgeOf
+one-can =
+    record { bytes = are-bytes one refl; judged = refl; there = omega arith; oldest = refl; room = omega arith }
+
+two-can : CanHop 0 0x580 [] two
+unfolding powerOn bytesFrom deviceOf recordOf zeros soundDevice soundRecord parts join all framesOf linkOf soundSlot
+    soundLink loopOf areaOf shaped sound judgeOf
+two-can =
+    record { bytes = are-bytes two refl; judged = refl; there = omega arith; oldest = refl; room = omega arith }
+
+-- ---- demand 1
+
+accepted : (lowest (onArea (put 0)) one ≡ 0) × (lowest (onArea (hop 0)) one ≡ 0)
+unfolding powerOn bytesFrom deviceOf recordOf zeros soundDevice soundRecord parts join all framesOf linkOf soundSlot
+    soundLink loopOf areaOf shaped sound judgeOf
+accepted = (refl, refl)
 
 pub refuser-shut-out : RefuserShutOut
-refuser-shut-out r = omega (arith, r .by-table (decode 0) [])
+refuser-shut-out =
+    record {
+      of-puts = λ model never r. never 0 one (r .by-table (onArea (put 0)) one ∙ accepted .0);
+      of-hops = λ model never r. never 0 one (r .by-table (onArea (hop 0)) one ∙ accepted .1);
+    }
 
 pub lowest-given : LowestGiven
 unfolding powerOn bytesFrom deviceOf recordOf zeros soundDevice soundRecord parts join all framesOf linkOf soundSlot
     soundLink loopOf areaOf shaped sound judgeOf callOf hopIn
 lowest-given = record { five = refl; six = refl; given = refl }
 
-pub some-frame-changes : SomeFrameChanges
-unfolding messages kindAt lookup within firstIn firstOf choose powerOn bytesFrom aad takes
-some-frame-changes e = omega (arith, e)
+-- ---- demand 2
+
+-- AAD 0 goes on as AAD 1, in the answer and in the area,
+answered : (f : ℕ) (h : Handed) → frameIn (hopped (hopAnswer f h)) ≡ f
+answered f handed.Nothing = refl
+answered f (handed.Byte b e) = refl
+
+sent-on : ruled 0 0x580 one .frame ≡ 0x581
+unfolding messages kindAt lookup within firstIn firstOf choose powerOn bytesFrom aad takes deviceOf recordOf parts join
+    linkOf framesOf loopOf areaOf
+sent-on = refl
+
+left-on : (link (loopOf one) 1 ≡ []) × (link (loopOf (hopLeaves 0 0x580 one)) 1 ≡ 0x581 ∷ [])
+unfolding messages kindAt lookup within firstIn firstOf choose powerOn bytesFrom aad takes deviceOf recordOf parts join
+    linkOf framesOf loopOf areaOf splice
+left-on = (refl, refl)
+
+-- and the second device waits
+waits : device (loopOf (hopLeaves 0 0x580 two)) 1 .configured ≡ 0
+unfolding messages kindAt lookup within firstIn firstOf choose powerOn bytesFrom aad takes deviceOf recordOf parts join
+    linkOf framesOf loopOf areaOf splice
+waits = refl
+
+both-there : 1 < countIn two
+unfolding areaOf
+both-there = omega arith
+
+works : takes (device (loopOf two) 1) (ruled 0 0x580 two .frame) .device .configured ≡ 1
+unfolding messages kindAt lookup within firstIn firstOf choose powerOn bytesFrom aad takes deviceOf recordOf parts join
+    linkOf framesOf loopOf areaOf splice
+works = refl
+
+module _ (model : Action → List ℕ → After Answer) (o : Obeys model) where
+  answers-on : frameIn (model (hop 0) one .answer) ≡ 0x581
+  answers-on = ap frameIn (o .answers 0 0x580 [] one one-can)
+      ∙ answered (ruled 0 0x580 one .frame) (ruled 0 0x580 one .handed) ∙ sent-on
+
+  leaves-on : link (loopOf (model (hop 0) one .area)) 1 ≡ 0x581 ∷ []
+  leaves-on = ap (λ (x : List ℕ). link (loopOf x) 1) (o .leaves 0 0x580 [] one one-can) ∙ left-on .1
+
+  leaves-waiting : device (loopOf (model (hop 0) two .area)) 1 .configured ≡ 0
+  leaves-waiting = ap (λ (x : List ℕ). device (loopOf x) 1 .configured) (o .leaves 0 0x580 [] two two-can) ∙ waits
+
+  -- a drain with no budget makes no hop, whatever can hop, and one with a budget of one makes the hop of AAD
+  spent : (c : Action) (h : ℕ) (a : List ℕ) → hopsBy c (byHops model 0 h a .answer) ≡ h
+  spent c h a = go (highest model a (countIn a))
+    where
+      go : (p : Option ℕ) →
+          let x : After Answer = elim p [ none ↦ stopsBefore 0 h a | some i ↦ stopsBefore 1 h a ] in
+          hopsBy c (x .answer) ≡ h
+      go none = refl
+      go (some i) = refl
+
+  can-one : can model one 0 ≡ true
+  can-one = ap (λ (r : Answer). eqb (refusalIn r) 0) (o .answers 0 0x580 [] one one-can)
+      ∙ rw (hop-done (ruled 0 0x580 one .frame) (ruled 0 0x580 one .handed))
+
+  one-hops : highest model one (countIn one) ≡ some 0
+  unfolding areaOf
+  one-hops = ap (λ (t : Bool). cond t (some 0) none) can-one
+
+  turn : Option ℕ → After Answer
+  turn p =
+      elim p [
+        | none ↦ stopsBefore 0 0 one
+        | some i ↦ afterHop model i 1 (byHops model 0 1) (handedBy i (hop i) (model (hop i) one .answer))
+            (model (hop i) one .area)
+      ]
+
+  counts : hopsBy (drain 1) (byHops model 1 0 one .answer) ≡ 1
+  unfolding turn
+  counts = ap (λ (p : Option ℕ). hopsBy (drain 1) (turn p .answer)) one-hops
+      ∙ go (handedBy 0 (hop 0) (model (hop 0) one .answer))
+    where
+      go : (gs : List Got) → hopsBy (drain 1)
+          (afterHop model 0 1 (byHops model 0 1) gs (model (hop 0) one .area) .answer) ≡ 1
+      go [] = spent (drain 1) 1 (model (hop 0) one .area)
+      go (g ∷ gs) = refl
+
+pub passer-shut-out : PasserShutOut
+passer-shut-out =
+    record {
+      answering = λ model same o. omega (arith, same 0 0x580 [] one one-can, answers-on model o);
+      leaving = λ model same o. untouched (sym (leaves-on model o) ∙ same 0 0x580 [] one one-can ∙ rw (left-on .0));
+    }
+  where
+    untouched : _≡_ {A = List ℕ} (0x581 ∷ []) (0x580 ∷ []) → ⊥
+    untouched e = let z : _≡_ {A = ℕ} 0x581 0x580 = cc in omega arith
+
+pub worker-shut-out : WorkerShutOut
+worker-shut-out model does o =
+    let z : _≡_ {A = ℕ} 0 1 = sym (leaves-waiting model o)
+    ∙ ap (λ (d : Device). d .configured) (does 0x580 [] two two-can both-there) ∙ works in
+    omega arith
+
+pub invented-count-shut-out : InventedCountShutOut
+invented-count-shut-out n model says o =
+    omega (
+      arith,
+      says 0 one,
+      ap (λ (x : After Answer). hopsBy (drain 0) (x .answer)) (o .drains 0 one (one-can .bytes) (one-can .judged)),
+      spent model o (drain 0) 0 one,
+      says 1 one,
+      ap (λ (x : After Answer). hopsBy (drain 1) (x .answer)) (o .drains 1 one (one-can .bytes) (one-can .judged)),
+      counts model o,
+    )

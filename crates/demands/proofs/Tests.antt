@@ -1,6 +1,6 @@
 -- The tests of each call on a loop, as the conditions of the table that concern it.
 use Prim.Native.Nat.{ℕ, zero, suc}
-use mathlib.Core.Path.{_≡_, refl, ap, _∙_}
+use mathlib.Core.Path.{_≡_, refl, _∙_}
 use mathlib.Core.Bool.{Bool, true, false, not, cond}
 use mathlib.Core.List.{List}
 use native.Mathlib.Omega.{arith}
@@ -18,14 +18,15 @@ use Rattle.device.specs.declared.Handed.{Handed}
 use Rattle.device.specs.declared.Handed.the-variants as handed
 use Rattle.record.specs.Record.{recordSize, deviceOf}
 use Rattle.area.specs.Sizes.{depth, headerSize}
-use Rattle.area.specs.Parts.{parts}
 use Rattle.area.specs.Loop.{Loop, countIn, recordsIn, size, loopOf, device, link}
-use Rattle.area.specs.Lookup.{oldestOf, setDevice}
+use Rattle.area.specs.Lookup.{oldestOf, roomOf, placeOf, setDevice, add}
 use Rattle.area.specs.declared.Oldest.{Oldest}
+use Rattle.area.specs.declared.Room.{Room}
 use Rattle.area.specs.declared.Place.{Place}
+use Rattle.area.proofs.Parts.{length-parts}
 use Rattle.calls.specs.Outcome.{Outcome, refuse, done}
-use Rattle.calls.specs.Calls.{refusal, hopAnswer, sentBy, putIn, takeFrom, takeIn, hopFrom, hopIn, calledIn}
-use Rattle.calls.specs.Calls.{localIn, hasRoom}
+use Rattle.calls.specs.Calls.{atPlace, ofOldest, intoRoom, refusal, hopAnswer, sentBy, putIn, takenFrom, takeIn}
+use Rattle.calls.specs.Calls.{passes, passesOn, hopFrom, hopIn, calledIn, calledAt, localIn}
 use Rattle.calls.specs.Drain.{onPlace, handedTo, turned, highest, drainFrom}
 use Rattle.calls.specs.declared.HopAnswer.{HopAnswer}
 use Rattle.calls.specs.declared.TakeAnswer.{TakeAnswer}
@@ -33,21 +34,33 @@ use Rattle.calls.specs.declared.DrainAnswer.{DrainAnswer}
 use Rattle.demands.proofs.Refusals.{Told, no, yes, turned-lt, told-cond, none-is, some-is}
 
 -- byte 0 is how many devices there are
-length-parts : (w n : ℕ) (b : List ℕ) → length (parts w n b) ≡ n
-unfolding parts
-length-parts w zero b = refl
-length-parts w (suc n) b = ap suc (length-parts w n _)
-
 pub size-is : (a : List ℕ) → size (loopOf a) ≡ countIn a
 unfolding loopOf
 size-is a = length-map (recordsIn a) deviceOf ∙ length-parts recordSize (countIn a) (drop headerSize a)
+
+-- a lookup that finds nothing refuses, with the number of the table's row
+into-told : {A : Type 0} {get : A → ℕ} (o : Outcome A) (fs : List ℕ) → Told A get o 0 →
+    Told A get (intoRoom o (roomOf fs)) (cond (leb depth (length fs)) 6 0)
+into-told {A} {get} o fs t = rw (turned-lt (length fs) depth 6 0) (go (ltb (length fs) depth))
+  where
+    go : (b : Bool) → Told A get (intoRoom o (cond b (Room.Behind (length fs)) Room.Full)) (cond b 0 6)
+    go true = t
+    go false = no 6 (λ z. omega arith)
+
+at-told : {A : Type 0} {get : A → ℕ} (call : ℕ → Outcome A) (l : Loop) (i k : ℕ) → Told A get (call i) k →
+    Told A get (atPlace call (placeOf l i)) (cond (leb (size l) i) 3 k)
+at-told {A} {get} call l i k t = rw (turned-lt i (size l) 3 k) (go (ltb i (size l)))
+  where
+    go : (b : Bool) → Told A get (atPlace call (cond b (Place.At i) Place.NoDevice)) (cond b k 3)
+    go true = t
+    go false = no 3 (λ z. omega arith)
 
 pub put-told : (f : ℕ) (l : Loop) →
     Told ℕ refusal (putIn f l) (cond (leb frames f) 4 (cond (leb depth (length (link l 0))) 6 0))
 unfolding putIn
 put-told f l =
-    rw (turned-lt f frames 4 (cond (leb depth (length (link l 0))) 6 0), turned-lt (length (link l 0)) depth 6 0)
-    (told-cond (ltb f frames) _ _ _ _ (told-cond (hasRoom 0 l) _ _ _ _ (yes 0 _ refl) (no 6 (λ z. omega arith)))
+    rw (turned-lt f frames 4 (cond (leb depth (length (link l 0))) 6 0))
+    (told-cond (ltb f frames) _ _ _ _ (into-told (done 0 (add 0 f l)) (link l 0) (yes 0 _ refl))
     (no 4 (λ z. omega arith)))
 
 abbrev takeRefusal : TakeAnswer → ℕ
@@ -58,37 +71,31 @@ unfolding takeIn
 take-told l = go (oldestOf (link l (size l))) refl
   where
     go : (o : Oldest) → oldestOf (link l (size l)) ≡ o →
-        Told TakeAnswer takeRefusal (takeFrom l o) (cond (eqb (length (link l (size l))) 0) 5 0)
+        Told TakeAnswer takeRefusal (ofOldest (takenFrom l) o) (cond (eqb (length (link l (size l))) 0) 5 0)
     go Oldest.Empty e = rw (none-is (link l (size l)) 0 e) (no 5 (λ z. omega arith))
     go (Oldest.Frame f) e = rw (some-is (link l (size l)) f 0 e) (yes _ _ refl)
 
 abbrev hopRefusal : HopAnswer → ℕ
 hopRefusal r = r .refusal
 
-hop-done : (f : ℕ) (h : Handed) → hopAnswer f h .refusal ≡ 0
+pub hop-done : (f : ℕ) (h : Handed) → hopAnswer f h .refusal ≡ 0
 hop-done f handed.Nothing = refl
 hop-done f (handed.Byte b e) = refl
 
 pub hop-told : (i : ℕ) (l : Loop) → Told HopAnswer hopRefusal (hopIn i l)
     (cond (leb (size l) i) 3 (cond (eqb (length (link l i)) 0) 5 (cond (leb depth (length (link l (suc i)))) 6 0)))
 unfolding hopIn
-hop-told i l =
-    rw (turned-lt i (size l) 3 (cond (eqb (length (link l i)) 0) 5 (cond (leb depth (length (link l (suc i)))) 6 0)))
-    (told-cond (ltb i (size l)) _ _ _ _ (go (oldestOf (link l i)) refl) (no 3 (λ z. omega arith)))
+hop-told i l = at-told (hopFrom l) l i _ (go (oldestOf (link l i)) refl)
   where
     go : (o : Oldest) → oldestOf (link l i) ≡ o →
-        Told HopAnswer hopRefusal (hopFrom i l o)
+        Told HopAnswer hopRefusal (ofOldest (passesOn i l) o)
         (cond (eqb (length (link l i)) 0) 5 (cond (leb depth (length (link l (suc i)))) 6 0))
     go Oldest.Empty e = rw (none-is (link l i) (cond (leb depth (length (link l (suc i)))) 6 0) e)
         (no 5 (λ z. omega arith))
     go (Oldest.Frame f) e =
-        rw (
-          some-is (link l i) f (cond (leb depth (length (link l (suc i)))) 6 0) e,
-          turned-lt
-              (length (link l (suc i))) depth 6 0,
-        )
-        (told-cond (hasRoom (suc i) l) _ _ _ _ (yes _ _ (hop-done (sentBy i f l .frame) (sentBy i f l .handed)))
-        (no 6 (λ z. omega arith)))
+        rw (some-is (link l i) f (cond (leb depth (length (link l (suc i)))) 6 0) e)
+        (into-told (passes i f l) (link l (suc i))
+        (yes _ _ (hop-done (sentBy i f l .frame) (sentBy i f l .handed))))
 
 -- ---- local calls
 
@@ -103,9 +110,7 @@ called-told i l c = go (eqb (c .refusal) 0) refl
 pub local-told : (call : Device → Called) (i : ℕ) (l : Loop) →
     Told ℕ refusal (localIn call i l) (cond (leb (size l) i) 3 (call (device l i) .refusal))
 unfolding localIn
-local-told call i l =
-    rw (turned-lt i (size l) 3 (call (device l i) .refusal))
-    (told-cond (ltb i (size l)) _ _ _ _ (called-told i l (call (device l i))) (no 3 (λ z. omega arith)))
+local-told call i l = at-told (calledAt call l) l i _ (called-told i l (call (device l i)))
 
 chosen-refusal : (b : Bool) (x y : Called) → choose b x y .refusal ≡ cond (not b) (y .refusal) (x .refusal)
 unfolding choose
@@ -149,21 +154,21 @@ Never o = Told DrainAnswer drainRefusal o 0
 
 turned-told : (i h : ℕ) (next : Loop → Outcome DrainAnswer) (l : Loop) (o : Outcome HopAnswer) →
     ((m : Loop) → Never (next m)) → Never (turned i h next l o)
-turned-told i h next l (refuse k) n = n l
+turned-told i h next l (refuse k) n = yes _ _ refl
 turned-told i h next l (done r m) n = go (eqb (r .handed) 1)
   where
-    go : (t : Bool) → Never (cond t (handedTo i h r m) (next m))
+    go : (t : Bool) → Never (cond t (handedTo i (suc h) r m) (next m))
     go true = yes _ _ refl
     go false = n m
 
-placed-told : (x : Outcome DrainAnswer) (y : ℕ → Outcome DrainAnswer) (p : Place) → Never x →
+either-told : (x : Outcome DrainAnswer) (y : ℕ → Outcome DrainAnswer) (p : Place) → Never x →
     ((i : ℕ) → Never (y i)) → Never (onPlace x y p)
-placed-told x y Place.NoDevice u v = u
-placed-told x y (Place.At i) u v = v i
+either-told x y Place.NoDevice u v = u
+either-told x y (Place.At i) u v = v i
 
 pub drain-told : (b h : ℕ) (l : Loop) → Never (drainFrom b h l)
 unfolding drainFrom
-drain-told zero h l = placed-told _ _ (highest (size l) l) (yes _ _ refl) (λ i. yes _ _ refl)
+drain-told zero h l = either-told _ _ (highest (size l) l) (yes _ _ refl) (λ i. yes _ _ refl)
 drain-told (suc b) h l =
-    placed-told _ _ (highest (size l) l) (yes _ _ refl)
-    (λ i. turned-told i (suc h) (drainFrom b (suc h)) l (hopIn i l) (λ m. drain-told b (suc h) m))
+    either-told _ _ (highest (size l) l) (yes _ _ refl)
+    (λ i. turned-told i h (drainFrom b (suc h)) l (hopIn i l) (λ m. drain-told b (suc h) m))

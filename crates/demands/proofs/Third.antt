@@ -1,7 +1,7 @@
 -- Demand 3: the area that a set-up leaves holds an idle line, a history on it is one of the line, and the line's
 -- order does not matter; the right-round history of the line can be made by calls on the area, and all is read off
 -- its answers too.
-use Prim.Native.Nat.{ℕ, suc, _*_, _<_}
+use Prim.Native.Nat.{ℕ, zero, suc, _*_, _<_}
 use mathlib.Core.Path.{_≡_, refl, sym, ap, _∙_}
 use mathlib.Core.Bool.{true, cond}
 use mathlib.Core.List.{List, [], _∷_, map}
@@ -22,28 +22,31 @@ use Rattle.order.specs.History as told
 use Rattle.order.specs.RightRound.{first, rightRound}
 use Rattle.order.specs.Through.{Every, FairCall, callsOf}
 use Rattle.order.specs.Order.{SameAs}
+use Rattle.order.proofs.Flat.{same-flat}
 use Rattle.order.proofs.Order.{any-order, agree}
+use Rattle.order.proofs.Turns.{turns-add-up}
 use Rattle.order.proofs.Written.{run-puts, round-fair, calls-fair, writes-all}
 use Rattle.demands.specs.Calls.{Byte, numbers, Action, put, hop, take, drain, setUp, Answer, pil}
 use Rattle.demands.specs.Conditions.{devicesAt, lowest}
 use Rattle.demands.specs.Histories.{history, total, refusedBy, areaLeft, framesPut, framesTaken, bytesHanded}
-use Rattle.demands.specs.Histories.{hopsMade, callsRefused, toLoad, toStatus, toWish, model, allCalls}
+use Rattle.demands.specs.Histories.{hopsMade, callsRefused, toLoad, toStatus, toWish, papers, allCalls}
 use Rattle.demands.specs.Histories.{turnsOf, action, inTurn}
-use Rattle.demands.specs.Demands.{AllEmpty, InAnyOrder, Demand3, Agreement}
+use Rattle.demands.specs.Demands.{AllEmpty, InAnyOrder, Demand3, Turns, TurnsAreSeen, Agreement}
 use Rattle.demands.proofs.Tests.{size-is}
 use Rattle.demands.proofs.First.{sets-up}
 use Rattle.demands.proofs.Bridge.{toLoop}
 use Rattle.demands.proofs.Settled.{fair, follows}
 use Rattle.demands.proofs.Rendered.{numbers-bytes, R, W, same-calls, line-is, area-is, good-is, count, puts-are}
-use Rattle.demands.proofs.Rendered.{taken-are, handed-are, hops-are, turns-are}
+use Rattle.demands.proofs.Rendered.{taken-are, handed-are, hops-are, turns-are, turns-seen, calls-seen}
+use Rattle.demands.proofs.ByHops.{count-is}
 
 -- ---- idle lines
 
-idle-links : (ss : List Device) → flat.linksOf (line.idle {L = model} ss) ≡ replicate (suc (length ss)) []
+idle-links : (ss : List Device) → flat.linksOf (line.idle {L = papers} ss) ≡ replicate (suc (length ss)) []
 idle-links [] = refl
 idle-links (s ∷ ss) = ap (λ (r : List (List ℕ)). [] ∷ r) (idle-links ss)
 
-idle-states : (ss : List Device) → flat.statesOf (line.idle {L = model} ss) ≡ ss
+idle-states : (ss : List Device) → flat.statesOf (line.idle {L = papers} ss) ≡ ss
 idle-states [] = refl
 idle-states (s ∷ ss) = ap (λ (r : List Device). s ∷ r) (idle-states ss)
 
@@ -51,13 +54,13 @@ idle-loop : (ss : List Device) → toLoop (line.idle ss) ≡ record { devices = 
 idle-loop ss = rw (idle-links ss, idle-states ss)
 
 -- a line all of whose links are empty is idle
-is-idle : (l : line.Loop model) → ((j : ℕ) → getD (flat.linksOf l) j [] ≡ []) → l ≡ line.idle (flat.statesOf l)
+is-idle : (l : line.Loop papers) → ((j : ℕ) → getD (flat.linksOf l) j [] ≡ []) → l ≡ line.idle (flat.statesOf l)
 is-idle (line.tail q) h = ap (λ (r : List ℕ). line.tail r) (h 0)
-is-idle (line.cell q s r) h = rw (h 0) (ap (λ (x : line.Loop model). line.cell [] s x) (is-idle r (λ j. h (suc j))))
+is-idle (line.cell q s r) h = rw (h 0) (ap (λ (x : line.Loop papers). line.cell [] s x) (is-idle r (λ j. h (suc j))))
 
 -- ---- right round, by calls on the area
 
-fair-all : (cs : List (line.Call model)) → Every (FairCall (λ f. f < frames)) cs →
+fair-all : (cs : List (line.Call papers)) → Every (FairCall (λ f. f < frames)) cs →
     Every (λ c. fair c ≡ true) (map action cs)
 fair-all [] u = tt
 fair-all (line.put f ∷ cs) u = (lt-ltb f frames (u .0), fair-all cs (u .1))
@@ -79,13 +82,13 @@ fair-total (c ∷ cs) (r ∷ rs) u = rw (u .0, fair-total cs rs (u .1))
 module _ (ss : List Device) (good : Sound-loop (toLoop (line.idle ss))) (cs : List Action)
     (empty : AllEmpty (areaLeft (areaOf (toLoop (line.idle ss))) cs)) where
   -- the line at the start and at the end, what happened, and the area
-  abbrev start : line.Loop model
+  abbrev start : line.Loop papers
   start = line.idle ss
 
-  abbrev end : line.Loop model
+  abbrev end : line.Loop papers
   end = (line.run start (callsOf R cs)) .0
 
-  abbrev es : List (line.Event model)
+  abbrev es : List (line.Event papers)
   es = (line.run start (callsOf R cs)) .1
 
   abbrev left : List Device
@@ -102,19 +105,19 @@ module _ (ss : List Device) (good : Sound-loop (toLoop (line.idle ss))) (cs : Li
       (ap loopOf (area-is start good cs) ∙ loop-back (toLoop end) (good-is start good cs))) ∙ empty j)
 
   pub ends : line.run start (callsOf R cs) ≡ (line.idle left, es)
-  ends = ap (λ (m : line.Loop model). (m, es)) again
+  ends = ap (λ (m : line.Loop papers). (m, es)) again
 
   -- the line's own right-round history, with the frames and the turns of this one
-  abbrev ref : List (line.Call model)
+  abbrev ref : List (line.Call papers)
   ref = rightRound (told.puts es) (first (length ss) (told.turns es))
 
   same-as : SameAs start ref (line.idle left) es × (told.hopsMade es ≡ length (told.puts es) * length ss)
-  same-as = any-order model ss left (callsOf R cs) es ends
+  same-as = any-order papers ss left (callsOf R cs) es ends
 
   ref-fair : Every (FairCall (λ f. f < frames)) ref
   ref-fair =
-      round-fair model (λ f. f < frames) (told.puts es) (first (length ss) (told.turns es))
-      (run-puts model (λ f. f < frames) start (callsOf R cs) (calls-fair R W cs))
+      round-fair papers (λ f. f < frames) (told.puts es) (first (length ss) (told.turns es))
+      (run-puts papers (λ f. f < frames) start (callsOf R cs) (calls-fair R W cs))
 
   ref-calls : callsOf R (map action ref) ≡ ref
   ref-calls = writes-all R W ref ref-fair
@@ -124,40 +127,41 @@ module _ (ss : List Device) (good : Sound-loop (toLoop (line.idle ss))) (cs : Li
   devices-are = sym (size-is x) ∙ ap size (loop-back (toLoop start) good) ∙ ap length (idle-states ss)
 
   -- the page's right-round history is that one
-  turns-same : _≡_ {A = ℕ → List (told.Turn model)} (λ i. turnsOf x cs i) (λ i. told.turns es i)
+  turns-same : _≡_ {A = ℕ → List (told.Turn papers)} (λ i. turnsOf x cs i) (λ i. told.turns es i)
   turns-same =
-      ap (λ (m : line.Loop model). λ (i : ℕ). told.turns ((line.run m (allCalls cs)) .1) i) (line-is start good)
-      ∙ ap (λ (c : List (line.Call model)). λ (i : ℕ). told.turns ((line.run start c) .1) i) (same-calls cs)
+      ap (λ (m : line.Loop papers). λ (i : ℕ). told.turns ((line.run m (allCalls cs)) .1) i) (line-is start good)
+      ∙ ap (λ (c : List (line.Call papers)). λ (i : ℕ). told.turns ((line.run start c) .1) i) (same-calls cs)
 
   in-turn : inTurn x cs ≡ map action ref
   in-turn =
       ap (λ (fs : List ℕ). map action (rightRound fs (first (countIn x) (turnsOf x cs)))) (puts-are start good cs)
       ∙ ap (λ (n : ℕ). map action (rightRound (told.puts es) (first n (turnsOf x cs)))) devices-are
-      ∙ ap (λ (T : ℕ → List (told.Turn model)). map action (rightRound (told.puts es) (first (length ss) T))) turns-same
+      ∙ ap (λ (T : ℕ → List (told.Turn papers)). map action (rightRound (told.puts es) (first (length ss) T)))
+      turns-same
 
   -- what is seen of it
   abbrev ds : List Action
   ds = map action ref
 
-  abbrev fs : List (line.Event model)
+  abbrev fs : List (line.Event papers)
   fs = (same-as .0) .events
 
   ref-run : line.run start (callsOf R ds) ≡ (line.idle left, fs)
   ref-run = rw ref-calls ((same-as .0) .ran)
 
   ref-events : (line.run start (callsOf R ds)) .1 ≡ fs
-  ref-events = ap (λ (p : line.Loop model × List (line.Event model)). p .1) ref-run
+  ref-events = ap (λ (p : line.Loop papers × List (line.Event papers)). p .1) ref-run
 
   none-refused : callsRefused x ds ≡ 0
   none-refused =
       fair-total ds ((history x ds) .1) (fair-all ref ref-fair)
       ∙ count start good ds (λ c r. cond (fair c) (refusedBy c r) 0) (λ e. told.refusalBy e)
       (λ m c. follows c m .reads .refused)
-      ∙ ap (λ (e : List (line.Event model)). told.refusals e) ref-events
+      ∙ ap (λ (e : List (line.Event papers)). told.refusals e) ref-events
       ∙ (same-as .0) .accepted
 
   -- both histories, read off the line's events
-  module _ {A : Type 0} (seen : List Action → A) (happened : List (line.Event model) → A)
+  module _ {A : Type 0} (seen : List Action → A) (happened : List (line.Event papers) → A)
       (reads : (c : List Action) → seen c ≡ happened ((line.run start (callsOf R c)) .1)) where
     alike : happened fs ≡ happened es → seen (inTurn x cs) ≡ seen cs
     alike e = ap seen in-turn ∙ reads ds ∙ ap happened ref-events ∙ e ∙ sym (reads cs)
@@ -172,14 +176,20 @@ module _ (ss : List Device) (good : Sound-loop (toLoop (line.idle ss))) (cs : Li
         same-area =
             ap (λ (c : List Action). areaLeft x c) in-turn
             ∙ area-is start good ds
-            ∙ ap (λ (p : line.Loop model × List (line.Event model)). areaOf (toLoop (p .0))) ref-run
+            ∙ ap (λ (p : line.Loop papers × List (line.Event papers)). areaOf (toLoop (p .0))) ref-run
             ∙ sym (area-is start good cs
-            ∙ ap (λ (p : line.Loop model × List (line.Event model)). areaOf (toLoop (p .0))) ends);
+            ∙ ap (λ (p : line.Loop papers × List (line.Event papers)). areaOf (toLoop (p .0))) ends);
         same-taken = alike (λ c. framesTaken x c) (λ e. told.taken e) (taken-are start good) ((same-as .0) .same-taken);
         same-handed = λ i. alike (λ c. bytesHanded x c i) (λ e. told.handed e i) (λ c. handed-are start good c i)
             ((same-as .0) .same-handed i);
         hops = hops-are start good cs ∙ same-as .1 ∙ rw (← puts-are start good cs, ← devices-are);
       }
+
+-- ---- sums
+
+sum-same : (n : ℕ) {g h : ℕ → ℕ} → ((i : ℕ) → g i ≡ h i) → told.sumOver n g ≡ told.sumOver n h
+sum-same zero e = refl
+sum-same (suc n) e = rw (sum-same n e, e n)
 
 -- ---- from a set-up
 
@@ -209,6 +219,24 @@ pub demand-3 : Demand3
 demand-3 a items cs set empty =
     let e = fresh-area a items set in rw e (ordered (ss a items set) (fresh-good a items set) cs (rw e at empty))
 
+-- ---- the turns are what is seen
+
+pub turns-are-seen : TurnsAreSeen
+turns-are-seen a items cs set = rw (fresh-area a items set)
+    (seen (line.idle (ss a items set)) (fresh-good a items set))
+  where
+    seen : (l : line.Loop papers) → Sound-loop (toLoop l) → Turns (areaOf (toLoop l)) cs
+    seen l good =
+        record {
+          read = λ d i. turns-are l good cs i ∙ sym (turns-seen l good cs d i);
+          calls = λ i. ap (λ (t : List (told.Turn papers)). told.callsIn t) (turns-are l good cs i)
+              ∙ sym (calls-seen l good cs i);
+          hops = rw (count-is (toLoop l) good ∙ same-flat papers .same-devices l)
+              (sum-same (line.devices l) (λ i. ap (λ (t : List (told.Turn papers)). told.hopsIn t)
+              (turns-are l good cs i))
+              ∙ turns-add-up papers l _ (callsOf R cs) _ refl ∙ sym (hops-are l good cs));
+        }
+
 -- ---- two histories with the same frames and turns are two of the line, which agree
 
 module _ (ss : List Device) (good : Sound-loop (toLoop (line.idle ss))) (cs ds : List Action)
@@ -216,7 +244,7 @@ module _ (ss : List Device) (good : Sound-loop (toLoop (line.idle ss))) (cs ds :
     (q : AllEmpty (areaLeft (areaOf (toLoop (line.idle ss))) ds))
     (f : framesPut (areaOf (toLoop (line.idle ss))) cs ≡ framesPut (areaOf (toLoop (line.idle ss))) ds)
     (t : (i : ℕ) → turnsOf (areaOf (toLoop (line.idle ss))) cs i ≡ turnsOf (areaOf (toLoop (line.idle ss))) ds i) where
-  abbrev at : line.Loop model
+  abbrev at : line.Loop papers
   at = line.idle ss
 
   abbrev y : List ℕ
@@ -227,15 +255,15 @@ module _ (ss : List Device) (good : Sound-loop (toLoop (line.idle ss))) (cs ds :
   agreed =
       let u = ends ss good cs p in
       let v = ends ss good ds q in
-      let g = agree model at (left ss good cs p) (left ss good ds q) (callsOf R cs) (callsOf R ds) (es ss good cs p)
+      let g = agree papers at (left ss good cs p) (left ss good ds q) (callsOf R cs) (callsOf R ds) (es ss good cs p)
       (es ss good ds q) u v
       (sym (puts-are at good cs) ∙ f ∙ puts-are at good ds)
       (λ i. sym (turns-are at good cs i) ∙ t i ∙ turns-are at good ds i) in (
         area-is at good cs
-            ∙ ap (λ (r : line.Loop model × List (line.Event model)). areaOf (toLoop (r .0))) u
+            ∙ ap (λ (r : line.Loop papers × List (line.Event papers)). areaOf (toLoop (r .0))) u
             ∙ ap (λ (r : List Device). areaOf (toLoop (line.idle r))) (g .0)
             ∙ sym
-            (area-is at good ds ∙ ap (λ (r : line.Loop model × List (line.Event model)). areaOf (toLoop (r .0))) v),
+            (area-is at good ds ∙ ap (λ (r : line.Loop papers × List (line.Event papers)). areaOf (toLoop (r .0))) v),
         taken-are at good cs ∙ g .1 ∙ sym (taken-are at good ds),
         λ i. handed-are at good cs i ∙ g .2 i ∙ sym (handed-are at good ds i),
         hops-are at good cs ∙ g .3 ∙ sym (hops-are at good ds),

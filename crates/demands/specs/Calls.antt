@@ -33,7 +33,7 @@ pub data Action : Type 0 where
 
 -- any exported call
 pub data Call : Type 0 where
-  does : Action → Call
+  onArea : Action → Call
   setUp : List Byte → Call
   decode : ℕ → Call
   encode : ℕ → ℕ → Call
@@ -63,7 +63,7 @@ acts (drain b) a = told drained (drainOf a b)
 
 -- what a call answers and leaves; decoder and encoder are lent no area
 abbrev pub pil : Call → List ℕ → After Answer
-pil (does c) a = acts c a
+pil (onArea c) a = acts c a
 pil (setUp items) a = told plain (setUpOf a (numbers items))
 pil (decode f) a = after (decoded (decodeAnswer f)) a
 pil (encode k o) a = after (encoded (encodeAnswer k o)) a
@@ -88,7 +88,7 @@ bareAction (wish i w) k = plain k
 bareAction (drain b) k = drained (noDrain k)
 
 abbrev pub bare : Call → ℕ → Answer
-bare (does c) k = bareAction c k
+bare (onArea c) k = bareAction c k
 bare (setUp items) k = plain k
 bare (decode f) k = decoded (record { refusal = k; kind = 0 })
 bare (encode j o) k = encoded (record { frame = 0; refusal = k })

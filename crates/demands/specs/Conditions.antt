@@ -10,7 +10,7 @@ use Rattle.record.specs.Sound.{allowed}
 use Rattle.area.specs.Sizes.{depth, mostDevices, itemSize, areaSize}
 use Rattle.area.specs.Parts.{parts, all}
 use Rattle.area.specs.Loop.{countIn, loopOf, sound, device, link}
-use Rattle.demands.specs.Calls.{numbers, Action, put, hop, take, load, status, wish, drain, Call, does, setUp}
+use Rattle.demands.specs.Calls.{numbers, Action, put, hop, take, load, status, wish, drain, Call, onArea, setUp}
 use Rattle.demands.specs.Calls.{decode, encode}
 
 -- the number of devices, n at most, whose area has this length; 0 if there is none
@@ -24,7 +24,7 @@ devicesAt size = devicesUpTo mostDevices size
 -- 1, Shape: the area's length isn't one of 1 to 15 devices, or not that of byte 0;
 -- at set up the items' length isn't 12n for the n of the area's length
 abbrev pub Shape : Call → List ℕ → Bool
-Shape (does c) a = eqb (devicesAt (length a)) 0 || not (eqb (length a) (areaSize (countIn a)))
+Shape (onArea c) a = eqb (devicesAt (length a)) 0 || not (eqb (length a) (areaSize (countIn a)))
 Shape (setUp items) a = eqb (devicesAt (length a)) 0 || not
     (eqb (length (numbers items)) (itemSize * devicesAt (length a)))
 Shape (decode f) a = false
@@ -32,7 +32,7 @@ Shape (encode k o) a = false
 
 -- 2, Unsound: the contents aren't sound; at set up an item isn't allowed, and the contents aren't looked at
 abbrev pub Unsound : Call → List ℕ → Bool
-Unsound (does c) a = not (sound a)
+Unsound (onArea c) a = not (sound a)
 Unsound (setUp items) a = not (all allowed (parts itemSize (devicesAt (length a)) (numbers items)))
 Unsound (decode f) a = false
 Unsound (encode k o) a = false
@@ -49,13 +49,13 @@ NoDevice (drain b) a = false
 
 -- 4, BadFrame: a frame over 2,047 at put or decoder; a kind or an offset outside the list at the encoder
 abbrev pub BadFrame : Call → Bool
-BadFrame (does (put f)) = leb frames f
-BadFrame (does (hop i)) = false
-BadFrame (does take) = false
-BadFrame (does (load i bs)) = false
-BadFrame (does (status i s)) = false
-BadFrame (does (wish i w)) = false
-BadFrame (does (drain b)) = false
+BadFrame (onArea (put f)) = leb frames f
+BadFrame (onArea (hop i)) = false
+BadFrame (onArea take) = false
+BadFrame (onArea (load i bs)) = false
+BadFrame (onArea (status i s)) = false
+BadFrame (onArea (wish i w)) = false
+BadFrame (onArea (drain b)) = false
 BadFrame (setUp items) = false
 BadFrame (decode f) = leb frames f
 BadFrame (encode k o) = leb (codesOf k) o
@@ -123,7 +123,7 @@ Busy (drain b) a = false
 
 -- an action's condition, and no other call's
 abbrev pub ofAction : (Action → List ℕ → Bool) → Call → List ℕ → Bool
-ofAction test (does c) a = test c a
+ofAction test (onArea c) a = test c a
 ofAction test (setUp items) a = false
 ofAction test (decode f) a = false
 ofAction test (encode k o) a = false

@@ -1,23 +1,27 @@
 -- The three demands on the model, over the very definitions that the contracts of the exported functions cite.
--- Calls, Conditions and Histories have what this page speaks of; Teeth says what it shuts out.
-use Prim.Native.Nat.{ℕ, suc, _+_, _*_, _<_}
+-- Read with it: Calls, Conditions, Drains, Histories, Teeth; frame's Coding and Laws; device's Take; record's Record,
+-- Parts, Fits; area's Sizes, Link, Loop; calls' Outcome and Calls; order's Line, History and RightRound.
+use Prim.Native.Nat.{ℕ, suc, _*_, _<_}
 use mathlib.Core.Path.{_≡_}
 use mathlib.Core.List.{List, [], _∷_, _++_, tail}
-use lib.ListN.{length, take, drop}
-use Rattle.frame.specs.Laws.{TableInOrder, EncodeDecode, DecodeEncode, TableIsDecoder}
+use lib.ListN.{length}
+use Rattle.frame.specs.Laws.{TableInOrder, DecoderIsTable, EncodeDecode, DecodeEncode}
 use Rattle.device.specs.Take.{takes}
-use Rattle.device.specs.declared.Device.{Device}
+use Rattle.device.specs.Sent.{Sent}
 use Rattle.record.specs.Record.{recordOf}
+use Rattle.record.specs.Parts.{splice}
 use Rattle.record.specs.Fits.{Bytes}
 use Rattle.area.specs.Sizes.{depth, recordAt, linkAt}
 use Rattle.area.specs.Link.{linkOf}
 use Rattle.area.specs.Loop.{countIn, loopOf, judgeOf, device, link}
 use Rattle.calls.specs.Outcome.{After}
 use Rattle.calls.specs.Calls.{hopAnswer}
-use Rattle.demands.specs.Calls.{Byte, Action, hop, Call, setUp, Answer, hopped, acts, pil, refusalIn, bare}
+use Rattle.order.specs.History.{callsIn, hopsIn, sumOver}
+use Rattle.demands.specs.Calls.{Byte, Action, hop, drain, Call, setUp, Answer, hopped, acts, pil, refusalIn, bare}
 use Rattle.demands.specs.Conditions.{lowest}
+use Rattle.demands.specs.Drains.{byHops}
 use Rattle.demands.specs.Histories.{areaLeft, framesPut, framesTaken, bytesHanded, hopsMade, callsRefused}
-use Rattle.demands.specs.Histories.{turnsOf, inTurn}
+use Rattle.demands.specs.Histories.{turnsOf, Drainless, turnsRead, callsAccepted, inTurn}
 
 -- ---- Demand 1: every call is refused exactly by the table
 
@@ -34,46 +38,50 @@ Demand1 = Refuses pil
 
 -- ---- Demand 2: every device does what the papers say
 
--- a with new bytes from a place on; every other byte stays
-abbrev pub with : ℕ → List ℕ → List ℕ → List ℕ
-with at new a = take at a ++ (new ++ drop (at + length new) a)
+-- Device i of an area without a refusal can hop: f is its oldest frame, and the next link has room.
+pub record CanHop (i f : ℕ) (fs a : List ℕ) : Type 0 where
+  pub bytes : Bytes a
+  pub judged : judgeOf a ≡ 0
+  pub there : i < countIn a
+  pub oldest : link (loopOf a) i ≡ f ∷ fs
+  pub room : length (link (loopOf a) (suc i)) < depth
 
--- Of an area a without a refusal, when device i takes f, its oldest frame: what the device's rules make of it,
 module _ (i f : ℕ) (a : List ℕ) where
-  abbrev pub oldDevice : Device
-  oldDevice = device (loopOf a) i
+  -- What the device's rules make of f:
+  abbrev pub ruled : Sent
+  ruled = takes (device (loopOf a) i) f
 
   -- record i becomes the rules' device,
   abbrev pub recordTaken : List ℕ
-  recordTaken = with (recordAt i) (recordOf (takes oldDevice f .device)) a
+  recordTaken = splice (recordAt i) (recordOf (ruled .device)) a
 
   -- link i loses its oldest frame,
   abbrev pub linkLess : List ℕ
-  linkLess = with (linkAt (countIn a) i) (linkOf (tail (link (loopOf a) i))) recordTaken
+  linkLess = splice (linkAt (countIn a) i) (linkOf (tail (link (loopOf a) i))) recordTaken
 
   -- link i + 1 gains the frame that the rules send, and no other byte changes.
   abbrev pub hopLeaves : List ℕ
-  hopLeaves = with (linkAt (countIn a) (suc i))
-      (linkOf (link (loopOf a) (suc i) ++ (takes oldDevice f .frame ∷ []))) linkLess
+  hopLeaves = splice (linkAt (countIn a) (suc i)) (linkOf (link (loopOf a) (suc i) ++ (ruled .frame ∷ []))) linkLess
 
 -- A model of the calls on an area:
 pub record Obeys (model : Action → List ℕ → After Answer) : Type 0 where
-  -- a hop of device i, whose oldest frame is f and which has room to send, leaves that area,
-  pub leaves : (i f : ℕ) (fs a : List ℕ) → Bytes a → judgeOf a ≡ 0 → i < countIn a → link (loopOf a) i ≡ f ∷ fs →
-      length (link (loopOf a) (suc i)) < depth → model (hop i) a .area ≡ hopLeaves i f a
-  -- and answers the frame sent and the byte handed that the rules give.
-  pub answers : (i f : ℕ) (fs a : List ℕ) → Bytes a → judgeOf a ≡ 0 → i < countIn a → link (loopOf a) i ≡ f ∷ fs →
-      length (link (loopOf a) (suc i)) < depth →
-      model (hop i) a .answer ≡ hopped
-      (hopAnswer (takes (oldDevice i f a) f .frame) (takes (oldDevice i f a) f .handed))
+  -- a hop leaves that area,
+  pub leaves : (i f : ℕ) (fs a : List ℕ) → CanHop i f fs a → model (hop i) a .area ≡ hopLeaves i f a
+  -- and answers the frame sent and the byte handed that the rules give;
+  pub answers : (i f : ℕ) (fs a : List ℕ) → CanHop i f fs a →
+      model (hop i) a .answer ≡ hopped (hopAnswer (ruled i f a .frame) (ruled i f a .handed))
+  -- a drain answers and leaves what its hops come to, the highest-numbered device's first.
+  pub drains : (budget : ℕ) (a : List ℕ) → Bytes a → judgeOf a ≡ 0 →
+      model (drain budget) a ≡ byHops model budget 0 a
 
+-- That the published table has the decoder's kind at every frame is the contract of `published::kind`.
 pub record Demand2 : Type 0 where
-  -- the message table is in order, decoder and encoder undo each other, and the published table is the decoder's
+  -- the message table is in order, the decoder's kinds are the table's, and decoder and encoder undo each other;
   pub table : TableInOrder
+  pub decoder : DecoderIsTable
   pub encode-decode : EncodeDecode
   pub decode-encode : DecodeEncode
-  pub published : TableIsDecoder
-  -- and each hop is the device's rules, byte for byte
+  -- each hop is the device's rules, byte for byte, and each drain its hops
   pub hops : Obeys acts
 
 -- ---- Demand 3: the order of hops does not matter
@@ -104,6 +112,19 @@ pub record InAnyOrder (a : List ℕ) (cs : List Action) : Type 0 where
 abbrev pub Demand3 : Type 0
 Demand3 = (a : List ℕ) (items : List Byte) (cs : List Action) → lowest (setUp items) a ≡ 0 →
     AllEmpty (areaLeft (pil (setUp items) a .area) cs) → InAnyOrder (pil (setUp items) a .area) cs
+
+-- The turns of a history are what its caller sees:
+pub record Turns (a : List ℕ) (cs : List Action) : Type 0 where
+  -- without drains, the accepted hops and local calls that name the device;
+  pub read : Drainless cs → (i : ℕ) → turnsOf a cs i ≡ turnsRead a cs i
+  -- in any history, the local calls in them are those answered 0, in order,
+  pub calls : (i : ℕ) → callsIn (turnsOf a cs i) ≡ callsAccepted a cs i
+  -- and the hops in them, of all devices together, are the hops made.
+  pub hops : sumOver (countIn a) (λ i. hopsIn (turnsOf a cs i)) ≡ hopsMade a cs
+
+abbrev pub TurnsAreSeen : Type 0
+TurnsAreSeen = (a : List ℕ) (items : List Byte) (cs : List Action) → lowest (setUp items) a ≡ 0 →
+    Turns (pil (setUp items) a .area) cs
 
 -- So two such histories with the same frames and the same turns agree
 abbrev pub Agreement : Type 0

@@ -1,6 +1,5 @@
--- A worked example of demand 3: two devices with two frames under way at once, a local call between, the second
--- frame's hop at device 0 before the first frame's hop at device 1; and the same right round. Computed in
--- proofs/Example.antt.
+-- A worked example of demand 3, computed in proofs/Example.antt: two devices, two frames under way at once, a local
+-- call between them, a drain that hands a byte, and a call that is refused; and the same right round.
 use Prim.Native.Nat.{ℕ}
 use mathlib.Core.Path.{_≡_}
 use mathlib.Core.List.{List, [], _∷_, _++_}
@@ -8,8 +7,10 @@ use mathlib.Core.Bool.{Bool, true, false, _&&_}
 use lib.Dec.{T, eqb, ltb, ltb→lt}
 use lib.ListN.{replicate}
 use Rattle.area.specs.Sizes.{areaSize}
-use Rattle.demands.specs.Calls.{Byte, Action, put, hop, take, load, setUp, pil}
-use Rattle.demands.specs.Histories.{areaLeft, framesTaken, hopsMade, callsRefused, inTurn}
+use Rattle.demands.specs.Calls.{Byte, Action, put, hop, take, load, drain, setUp, pil}
+use Rattle.demands.specs.Conditions.{lowest}
+use Rattle.demands.specs.Histories.{got, areaLeft, framesTaken, bytesHanded, hopsMade, callsRefused, inTurn}
+use Rattle.demands.specs.Demands.{AllEmpty}
 
 abbrev pub byte : (n : ℕ) → T (ltb n 256) → Byte
 byte n small = record { value = n; small = ltb→lt n 256 small }
@@ -21,17 +22,24 @@ zero = byte 0 tt
 abbrev pub item : List Byte
 item = byte 0x23 tt ∷ byte 0x1f tt ∷ replicate 10 zero
 
-abbrev pub fresh : List ℕ
-fresh = pil (setUp (item ++ item)) (replicate (areaSize 2) 0) .area
+abbrev pub blank : List ℕ
+blank = replicate (areaSize 2) 0
 
--- AAD 0 and TAD 0; device 0 is loaded between its two hops
+abbrev pub fresh : List ℕ
+fresh = pil (setUp (item ++ item)) blank .area
+
+-- AAD 0 and LAD 1, the second frame past device 0 before the first is past device 1, and device 0 loaded between its
+-- two hops; then a data byte by a drain, and a take too many
 abbrev pub mixed : List Action
 mixed =
-    put 0x580 ∷ hop 0 ∷ put 0x440 ∷ load 0 (byte 0x41 tt ∷ []) ∷ hop 0 ∷ hop 1 ∷ hop 1 ∷ take ∷ take ∷ []
+    put 0x580 ∷ hop 0 ∷ put 0x421 ∷ load 0 (byte 0x42 tt ∷ []) ∷ hop 0 ∷ hop 1 ∷ hop 1 ∷ take ∷ take ∷
+    put 0x041 ∷ drain 9 ∷ take ∷ take ∷ []
 
 abbrev pub round : List Action
 round =
-    put 0x580 ∷ hop 0 ∷ hop 1 ∷ take ∷ put 0x440 ∷ load 0 (byte 0x41 tt ∷ []) ∷ hop 0 ∷ hop 1 ∷ take ∷ []
+    put 0x580 ∷ hop 0 ∷ hop 1 ∷ take ∷
+    put 0x421 ∷ load 0 (byte 0x42 tt ∷ []) ∷ hop 0 ∷ hop 1 ∷ take ∷
+    put 0x041 ∷ hop 0 ∷ hop 1 ∷ take ∷ []
 
 -- the same bytes
 abbrev pub same : List ℕ → List ℕ → Bool
@@ -41,9 +49,17 @@ same (x ∷ xs) [] = false
 same (x ∷ xs) (y ∷ ys) = eqb x y && same xs ys
 
 pub record Example : Type 0 where
+  -- demand 3's premises: the set-up is accepted, and all links are empty at the end
+  pub set-up : lowest (setUp (item ++ item)) blank ≡ 0
+  pub all-empty : AllEmpty (areaLeft fresh mixed)
+  -- what is seen of each history
+  pub mixed-refused : callsRefused fresh mixed ≡ 1
+  pub mixed-taken : framesTaken fresh mixed ≡ 0x582 ∷ 0x421 ∷ 0x041 ∷ []
+  pub mixed-handed : bytesHanded fresh mixed 1 ≡ got 0x41 0 ∷ []
+  pub mixed-hops : hopsMade fresh mixed ≡ 6
+  pub round-refused : callsRefused fresh round ≡ 0
+  pub round-taken : framesTaken fresh round ≡ 0x582 ∷ 0x421 ∷ 0x041 ∷ []
+  pub round-handed : bytesHanded fresh round 1 ≡ got 0x41 0 ∷ []
+  -- the second is the first in turn, and leaves the same bytes
   pub in-turn : inTurn fresh mixed ≡ round
-  pub none-refused : callsRefused fresh mixed ≡ 0
   pub same-area : same (areaLeft fresh mixed) (areaLeft fresh round) ≡ true
-  pub mixed-taken : framesTaken fresh mixed ≡ 0x582 ∷ 0x440 ∷ []
-  pub round-taken : framesTaken fresh round ≡ 0x582 ∷ 0x440 ∷ []
-  pub hops : hopsMade fresh mixed ≡ 4

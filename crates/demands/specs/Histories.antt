@@ -1,7 +1,8 @@
 -- Histories of calls on an area, what a caller in C reads off their answers, and the history that sends each frame
 -- right round.
 use Prim.Native.Nat.{ℕ, _+_}
-use mathlib.Core.Bool.{Bool, cond, _&&_}
+use mathlib.Core.Path.{_≡_}
+use mathlib.Core.Bool.{Bool, true, false, cond, _&&_}
 use mathlib.Core.Option.{Option, none, some}
 use mathlib.Core.List.{List, [], _∷_, _++_, map}
 use lib.Dec.{eqb, ltb, lit<}
@@ -16,8 +17,9 @@ use Rattle.area.specs.Sizes.{depth}
 use Rattle.area.specs.Loop.{countIn, loopOf}
 use Rattle.order.specs.Line as line
 use Rattle.order.specs.Flat.{lineUp}
-use Rattle.order.specs.History.{Turn, turns}
+use Rattle.order.specs.History.{Turn, hops, does, turns}
 use Rattle.order.specs.RightRound.{first, rightRound}
+use Rattle.order.specs.Through.{Every}
 use Rattle.demands.specs.Calls.{Byte, numbers, Action, put, hop, take, load, status, wish, drain, Answer, plain}
 use Rattle.demands.specs.Calls.{hopped, taken, drained, decoded, encoded, acts, refusalIn}
 
@@ -146,9 +148,9 @@ handedOver (handed.Byte b e) = some (got b e)
 abbrev pub acceptedBy : Called → Option Device
 acceptedBy c = cond (eqb (c .refusal) 0) (some (c .device)) none
 
--- the line whose devices go by the rules of demand 2
-abbrev pub model : line.Line
-model =
+-- the line whose devices go by the papers' rules, as demand 2 has them
+abbrev pub papers : line.Line
+papers =
     record {
       State = Device;
       Frame = ℕ;
@@ -163,7 +165,7 @@ model =
     }
 
 -- the call of the line that an action is; a put of what is no frame is none
-abbrev pub calls : Action → List (line.Call model)
+abbrev pub calls : Action → List (line.Call papers)
 calls (put f) = if (ltb f frames) (line.put f)
 calls (hop i) = line.hop i ∷ []
 calls take = line.take ∷ []
@@ -172,22 +174,68 @@ calls (status i s) = line.local i (toStatus s) ∷ []
 calls (wish i w) = line.local i (toWish w) ∷ []
 calls (drain b) = line.drain b ∷ []
 
-abbrev pub allCalls : List Action → List (line.Call model)
+abbrev pub allCalls : List Action → List (line.Call papers)
 allCalls [] = []
 allCalls (c ∷ cs) = calls c ++ allCalls cs
 
 -- the line of an area's devices and links
-abbrev pub lineOf : List ℕ → line.Loop model
+abbrev pub lineOf : List ℕ → line.Loop papers
 lineOf a = lineUp (loopOf a .links) (loopOf a .devices)
 
 -- the turns of device i: its own hops and the local calls that it accepted, in order
-abbrev pub turnsOf : List ℕ → List Action → ℕ → List (Turn model)
+abbrev pub turnsOf : List ℕ → List Action → ℕ → List (Turn papers)
 turnsOf a cs i = turns ((line.run (lineOf a) (allCalls cs)) .1) i
+
+-- ---- and what a caller sees of them
+
+-- the hop of device i that a call and its answer show
+abbrev pub hopBy : ℕ → Action → Answer → List (Turn papers)
+hopBy i (put f) r = []
+hopBy i (hop j) r = if (eqb i j && eqb (refusalIn r) 0) hops
+hopBy i take r = []
+hopBy i (load j bs) r = []
+hopBy i (status j s) r = []
+hopBy i (wish j w) r = []
+hopBy i (drain b) r = []
+
+-- the local call that device i accepted
+abbrev pub callBy : ℕ → Action → Answer → List Local
+callBy i (put f) r = []
+callBy i (hop j) r = []
+callBy i take r = []
+callBy i (load j bs) r = if (eqb i j && eqb (refusalIn r) 0) (toLoad bs)
+callBy i (status j s) r = if (eqb i j && eqb (refusalIn r) 0) (toStatus s)
+callBy i (wish j w) r = if (eqb i j && eqb (refusalIn r) 0) (toWish w)
+callBy i (drain b) r = []
+
+-- the turn of device i
+abbrev pub turnBy : ℕ → Action → Answer → List (Turn papers)
+turnBy i c r = hopBy i c r ++ map (λ (x : Local). does x) (callBy i c r)
+
+abbrev pub isDrain : Action → Bool
+isDrain (put f) = false
+isDrain (hop i) = false
+isDrain take = false
+isDrain (load i bs) = false
+isDrain (status i s) = false
+isDrain (wish i w) = false
+isDrain (drain b) = true
+
+-- no call of a history is a drain
+abbrev pub Drainless : List Action → Type 0
+Drainless cs = Every (λ c. isDrain c ≡ false) cs
+
+module _ (a : List ℕ) (cs : List Action) where
+  abbrev pub turnsRead : ℕ → List (Turn papers)
+  turnsRead i = each (turnBy i) cs ((history a cs) .1)
+
+  abbrev pub callsAccepted : ℕ → List Local
+  callsAccepted i = each (callBy i) cs ((history a cs) .1)
 
 -- ---- Each frame right round before the next
 
 -- a call of the line as an action
-abbrev pub action : line.Call model → Action
+abbrev pub action : line.Call papers → Action
 action (line.put f) = put f
 action (line.hop i) = hop i
 action line.take = take

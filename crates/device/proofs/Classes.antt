@@ -1,15 +1,17 @@
 -- What a device does with the frames of a class: data or end below 0x400, identify from 0x600 on, nothing past
--- 2,047.
+-- 2,047; and the codes of AAD.
 use Prim.Native.Nat.{ℕ, _≤_, _<_}
 use mathlib.Core.Path.{_≡_}
 use native.Mathlib.Omega.{arith}
 use native.Mathlib.Decide.{decLt}
+use Rattle.frame.specs.declared.Kind.the-variants.{Aad}
 use Rattle.frame.specs.Messages.{frames, messages, firstIn, firstOf, codesIn, codesOf}
-use Rattle.frame.proofs.Rows.{ranged, no-frame}
+use Rattle.frame.proofs.Rows.{within-kind, ranged, no-frame}
 use Rattle.device.specs.Choose.{choose}
 use Rattle.device.specs.Reply.{sends}
 use Rattle.device.specs.Data.{dataOrEnd, idy}
 use Rattle.device.specs.Take.{takes}
+use Rattle.device.specs.Sentences.{Of}
 use Rattle.device.specs.declared.Device.{Device}
 
 module _ (d : Device) (f : ℕ) where
@@ -28,3 +30,7 @@ module _ (d : Device) (f : ℕ) where
   pub past-frames : frames ≤ f → takes d f ≡ sends d f
   unfolding takes choose
   past-frames h = rw (no-frame f h)
+
+pub aad-codes : (f : ℕ) → Of Aad f → (0x580 ≤ f) × (f < 0x59f)
+unfolding messages firstIn firstOf codesIn codesOf
+aad-codes f e = within-kind f 34 e (omega arith)

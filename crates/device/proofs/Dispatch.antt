@@ -56,10 +56,10 @@ both false b t = absurd t
 -- the class: the frames from lo to below hi
 module _ (lo hi : ℕ) where
   -- kind k of the list has no code there
-  abbrev outside : ℕ → Bool
+  abbrev pub outside : ℕ → Bool
   outside k = ltb 0 k && (leb hi (firstOf k) || leb (firstOf k + codesOf k) lo)
 
-  elsewhere : (f k : ℕ) → lo ≤ f → f < hi → outside k ≡ true → kindAt f ≡ k → ⊥
+  pub elsewhere : (f k : ℕ) → lo ≤ f → f < hi → outside k ≡ true → kindAt f ≡ k → ⊥
   elsewhere f k l h o e =
       let p = both-true (ltb 0 k) (leb hi (firstOf k) || leb (firstOf k + codesOf k) lo) o in
       let w = within-kind f k e (ltb-true 0 k (p .0)) in

@@ -1,6 +1,5 @@
 -- 01's rows 1 to 12 hold: what is seen in each is computed and compared.
-use mathlib.Core.Path.{_≡_, refl}
-use mathlib.Core.List.{map}
+use mathlib.Core.Path.{refl}
 use Rattle.frame.specs.Messages.{messages, kindAt, lookup, within, firstIn, firstOf}
 use Rattle.device.specs.Choose.{choose}
 use Rattle.device.specs.PowerOn.{bytesFrom, powerOn}
@@ -9,9 +8,9 @@ use Rattle.device.specs.Reply.{marked, dataFrame, otherByte, otherLength
 use Rattle.device.specs.Ready.{requested, polls, sst, nrd, aad}
 use Rattle.device.specs.Data.{returned, heard, dataOrEnd}
 use Rattle.device.specs.Take.{takes}
-use Rattle.device.specs.Rows.{Row, seen, table}
+use Rattle.device.specs.Rows.{Rows}
 
-pub rows : map (λ (r : Row). seen (r .start) (r .frames)) table ≡ map (λ (r : Row). r .sees) table
+pub rows : Rows
 unfolding messages kindAt lookup within firstIn firstOf choose bytesFrom powerOn lad tad aau marked dataFrame otherByte
     otherLength sendsData sendsOther continues requested polls sst nrd aad returned heard dataOrEnd takes
 rows = refl

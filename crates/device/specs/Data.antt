@@ -15,8 +15,8 @@ dataBits f = f % c1
 abbrev pub endBit : ℕ → ℕ
 endBit f = f / c2 % 2
 
--- its own frame come back: ETE if the data bits differ from the last frame sent, else ETO if NRD was noted, else the
--- next byte
+-- its own frame come back: ETE if the data bits differ from the last frame sent, else ETO if NRD was noted, else what
+-- `continues` gives: the next byte, or ETO if nothing is left
 unfoldable pub returned : Device → ℕ → Sent
 returned d f =
     choose (eqb (dataBits f) (dataBits (d .last)))

@@ -10,4 +10,5 @@ pub mod Ready
 pub mod Data
 pub mod Take
 pub mod Classes
+pub mod Sentences
 pub mod Rows

@@ -1,12 +1,15 @@
 -- 01's rows 1 to 12: one device, abilities ff, fixed address 1f, with what a row names; frames, and what is seen after
--- each.
+-- each. All of them as one statement, proved in proofs/Table.antt.
 use Prim.Native.Nat.{ℕ}
-use mathlib.Core.List.{List, [], _∷_}
+use mathlib.Core.Path.{_≡_}
+use mathlib.Core.List.{List, [], _∷_, map}
 use Rattle.device.specs.Device.{addressed, asking, polled}
 use Rattle.device.specs.PowerOn.{powerOn}
 use Rattle.device.specs.Change.{talking, placed, serving, loading, statusing}
 use Rattle.device.specs.Take.{takes}
 use Rattle.device.specs.declared.Device.{Device}
+use Rattle.device.specs.declared.Handed.{Handed}
+use Rattle.device.specs.declared.Handed.the-variants.{Nothing}
 use Rattle.device.specs.Sent.{Sent}
 
 -- abilities ff, fixed address 1f, all else zero
@@ -25,19 +28,29 @@ loaded = loading (talking unconfigured addressed) (0x41 ∷ 0x42 ∷ [])
 abbrev pub polling : Device
 polling = statusing (serving (talking unconfigured addressed) asking) 0x20
 
--- the frame sent, the address now, configured, talker and service after a frame
+-- after a frame: the frame sent, the address now, configured, talker and service, and what was handed over
 pub record Seen : Type 0 where
   pub frame : ℕ
   pub address : ℕ
   pub configured : ℕ
   pub talker : ℕ
   pub service : ℕ
-
-abbrev pub see : (frame address configured talker service : ℕ) → Seen
-see f a c t s = record { frame = f; address = a; configured = c; talker = t; service = s }
+  pub handed : Handed
 
 abbrev pub after : Sent → Seen
-after r = see (r .frame) (r .device .address) (r .device .configured) (r .device .talker) (r .device .service)
+after r =
+    record {
+      frame = r .frame;
+      address = r .device .address;
+      configured = r .device .configured;
+      talker = r .device .talker;
+      service = r .device .service;
+      handed = r .handed;
+    }
+
+-- in no row anything is handed over
+abbrev pub see : (frame address configured talker service : ℕ) → Seen
+see f a c t s = record { frame = f; address = a; configured = c; talker = t; service = s; handed = Nothing }
 
 -- what is seen as a device takes frames one after the other
 abbrev pub seen : Device → List ℕ → List Seen
@@ -70,3 +83,7 @@ table =
     row 12 (serving unconfigured asking) (0x600 ∷ []) (see 0x700 31 0 0 1 ∷ []) ∷
     row 12 (serving unconfigured polled) (0x600 ∷ []) (see 0x600 31 0 0 2 ∷ []) ∷
     []
+
+-- Each row's frames show what the row says.
+abbrev pub Rows : Type 0
+Rows = map (λ (r : Row). seen (r .start) (r .frames)) table ≡ map (λ (r : Row). r .sees) table

@@ -19,8 +19,8 @@ pub struct Device {
     pub sent: u8,
     pub last: u16,
     pub replied: u8,
-    pub id: [u8; 8],
-    pub load: [u8; 32],
+    pub id: [u8; Device::MOST_ID],
+    pub load: [u8; Device::MOST_DATA],
 }
 
 // A byte handed to a listener, with its end bit C2.
@@ -67,12 +67,14 @@ impl Device {
 
     pub const POLLED: u8 = 2;
 
-    // The fixed address of a device that has none, and limits.
+    // The fixed address of a device that has none, and limits: bytes of ID and of data, and past any last frame sent.
     pub const NO_ADDRESS: u8 = 31;
 
     pub const MOST_ID: usize = 8;
 
     pub const MOST_DATA: usize = 32;
+
+    pub const PAST_LAST: u16 = 0x400;
 
     // The device of a set-up item: abilities, fixed address, accessory ID, ID length, ID.
     pub fn power_on(item: [u8; 12]) -> Self
@@ -104,7 +106,7 @@ impl Device {
                 item[10],
                 item[11],
             ],
-            load: [0u8; 32],
+            load: [0u8; Self::MOST_DATA],
         }
     }
 }

@@ -8,17 +8,30 @@ use lib.Dec.{ltb}
 use borrow.Author.Tests.{lt-ltb, ltb-false}
 use Rattle.frame.specs.Messages.{frames, kindAt, firstOf, codesOf}
 use Rattle.frame.specs.Coding.{Decoding, decoding, decodeOf, Encoding, encodeOf, badFrame}
-use Rattle.frame.specs.Laws.{EncodeDecode, DecodeEncode, TableIsDecoder, OneDecoded, OneEncoded}
+use Rattle.frame.specs.Laws.{DecoderIsTable, EncodeDecode, DecodeEncode, OneDecoded, OneEncoded}
 use Rattle.frame.specs.declared.Decoded.the-variants as decoded
 use Rattle.frame.specs.declared.Encoded.the-variants as encoded
 use Rattle.frame.proofs.Rows.{within-kind, coded, no-frame}
 use Rattle.frame.proofs.Every.{one-kind}
 
+pub decoder-is-table : DecoderIsTable
+unfolding decodeOf
+decoder-is-table f = split (ltb f frames) refl
+  where
+    split : (t : Bool) → ltb f frames ≡ t → cond t (decoding 0 (kindAt f)) (decoding badFrame 0) .kind ≡ kindAt f
+    split true e = refl
+    split false e = sym (no-frame f (ltb-false _ _ e))
+
 pub encode-decode : EncodeDecode
 unfolding encodeOf decodeOf
 encode-decode k o i =
     let c = coded k o i in
-    let e = lt-ltb o (codesOf k) i in (rw e, rw (e, lt-ltb (firstOf k + o) frames (c .0), c .1))
+    let e = lt-ltb o (codesOf k) i in
+    record {
+      accepted = rw e;
+      kind = rw (e, lt-ltb (firstOf k + o) frames (c .0), c .1);
+      offset = rw e (omega arith);
+    }
 
 pub decode-encode : DecodeEncode
 unfolding encodeOf
@@ -27,14 +40,6 @@ decode-encode f i =
     let w = within-kind f k refl i in
     let e : firstOf k + (f - firstOf k) ≡ f = omega arith in
     rw (lt-ltb (f - firstOf k) (codesOf k) (omega arith), e)
-
-pub table-is-decoder : TableIsDecoder
-unfolding decodeOf
-table-is-decoder f = split (ltb f frames) refl
-  where
-    split : (t : Bool) → ltb f frames ≡ t → cond t (decoding 0 (kindAt f)) (decoding badFrame 0) .kind ≡ kindAt f
-    split true e = refl
-    split false e = sym (no-frame f (ltb-false _ _ e))
 
 accepted : 0 ≡ badFrame → ⊥
 accepted e = omega arith

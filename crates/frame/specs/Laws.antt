@@ -27,18 +27,23 @@ Listed = (k : ℕ) → (0 < k → k < kinds → 0 < codesOf k) × (0 < codesOf k
 abbrev pub WithinKind : Type 0
 WithinKind = (f k : ℕ) → kindAt f ≡ k → 0 < k → (firstOf k ≤ f) × (f < firstOf k + codesOf k)
 
--- The encoder accepts every kind and offset in the list, and the decoder gives the kind back
+-- The decoder's kind is the message table's at every number: none past the frames
+abbrev pub DecoderIsTable : Type 0
+DecoderIsTable = (f : ℕ) → decodeOf f .kind ≡ kindAt f
+
+-- The encoder accepts every kind and offset in the list; the decoder gives the kind back, and the frame less the kind's
+-- first code the offset
+pub record Encodes (k o : ℕ) : Type 0 where
+  pub accepted : encodeOf k o .refusal ≡ 0
+  pub kind : decodeOf (encodeOf k o .frame) ≡ decoding 0 k
+  pub offset : encodeOf k o .frame - firstOf k ≡ o
+
 abbrev pub EncodeDecode : Type 0
-EncodeDecode =
-    (k o : ℕ) → o < codesOf k → (encodeOf k o .refusal ≡ 0) × (decodeOf (encodeOf k o .frame) ≡ decoding 0 k)
+EncodeDecode = (k o : ℕ) → o < codesOf k → Encodes k o
 
 -- Every frame of the list is the encoding of its kind, at the frame less the kind's first code
 abbrev pub DecodeEncode : Type 0
 DecodeEncode = (f : ℕ) → 0 < kindAt f → encodeOf (kindAt f) (f - firstOf (kindAt f)) ≡ encoding 0 f
-
--- The published table, whose entries are `kindAt`, has the decoder's kind at every number
-abbrev pub TableIsDecoder : Type 0
-TableIsDecoder = (f : ℕ) → decodeOf f .kind ≡ kindAt f
 
 -- A kind's number, a decoder's and an encoder's answer in numbers, belong to one value alone
 abbrev pub OneKind : Type 0

@@ -12,7 +12,7 @@ use Rattle.device.specs.Change.{listening, talking, placed, serving, noting, lo
 use Rattle.device.specs.declared.Device.{Device}
 use Rattle.device.proofs.Bytes.{bytes-wide}
 use Rattle.record.specs.Fits.{Bytes}
-use Rattle.record.proofs.Laws.{bytes-small}
+use Rattle.record.proofs.Bytes.{bytes-small}
 use Rattle.keeps.proofs.Zeros.{padded-zero}
 use Rattle.keeps.proofs.Groups.{Kept, Talks, eq-in, lt-in, only-in}
 use Rattle.record.proofs.Both.{both-true}
@@ -132,6 +132,7 @@ module _ (d : Device) (k : Kept d) where
       record {
         sized =
             record {
+              abilities = k .sized .abilities;
               status = k .sized .status;
               accessory = k .sized .accessory;
               id = k .sized .id;
@@ -174,6 +175,7 @@ module _ (d : Device) (k : Kept d) where
       record {
         sized =
             record {
+              abilities = k .sized .abilities;
               status = h;
               accessory = k .sized .accessory;
               id = k .sized .id;

@@ -1,10 +1,11 @@
--- Soundness, sorted by what a change touches: six groups of facts, each of which reads only some of the fields. A
--- change leaves
--- the groups alone that do not read what it changes.
+-- Soundness, sorted by what a change touches: seven groups of facts, each of which reads only some of the fields. A
+-- change leaves the groups alone that do not read what it changes.
 use Prim.Native.Nat.{ℕ, _≤_, _<_}
 use mathlib.Core.Path.{_≡_, refl}
 use mathlib.Core.Bool.{Bool, true, false, not, _&&_}
 use mathlib.Core.List.{List, [], _∷_}
+use native.Mathlib.Omega.{arith}
+use native.Mathlib.Decide.{decLt}
 use lib.Dec.{eqb, ltb, leb}
 use lib.ListN.{length, drop}
 use borrow.Author.Tests.{eqb-true, leb-true, ltb-true, ltb-false, not-true, eq-eqb, le-leb, lt-ltb, le-ltb}
@@ -14,7 +15,7 @@ use Rattle.record.specs.Record.{zeros}
 use Rattle.record.specs.Sound.{only, inRange, zeroPast, serviceWithStatus, unaddressWithBoth, unconfiguredFixed}
 use Rattle.record.specs.Sound.{configuredAble, listenerAble, serviceAble, sendingAble, addressedAble, dataAble}
 use Rattle.record.specs.Sound.{sentWithin, repliedRight, quietOutside, lastBelow, soundDevice}
-use Rattle.record.specs.Fits.{Bytes, Good}
+use Rattle.record.specs.Fits.{Bytes, Fits, Good}
 use Rattle.record.proofs.Both.{left, right, both-true}
 
 -- what set-up gave, which never changes
@@ -71,10 +72,11 @@ Talks d =
       quiet : d .talker ≤ 1 → (d .noted ≡ 0) × (d .last ≡ 0);
     }
 
--- what is sent is bytes, as `Fits` has it
+-- of what `Fits` says, that which the other groups do not bound
 abbrev pub Sized : Device → Type 0
 Sized d =
     record {
+      abilities : d .abilities < 256;
       status : d .status < 256;
       accessory : d .accessory < 256;
       id : Bytes (d .id);
@@ -220,6 +222,7 @@ module _ (d : Device) (g : Good d) where
       record {
         sized =
             record {
+              abilities = g .fits .abilities;
               status = g .fits .status;
               accessory = g .fits .accessory;
               id = g .fits .id;
@@ -342,18 +345,40 @@ module _ (d : Device) (k : Kept d) where
     ),
   )
 
+  -- a reply has at most the ID's eight bytes
+  replied-small : d .replied < 256
+  replied-small = go (decLt (d .talker) 3) (decLt (d .talker) 4) (decLt (d .talker) 5)
+    where
+      go : Dec (d .talker < 3) → Dec (d .talker < 4) → Dec (d .talker < 5) → d .replied < 256
+      go (yes h) b c = omega (arith, k .talks .none (omega arith))
+      go (no l) (yes h) c = omega (arith, k .talks .one3 (omega arith))
+      go (no l) (no m) (yes h) = omega (arith, k .talks .within (omega arith), k .made .idlength)
+      go (no l) (no m) (no h) = omega (arith, k .talks .one5 (omega (arith, k .talks .talker)))
+
+  fits-of : Fits d
+  fits-of =
+      record {
+        abilities = k .sized .abilities;
+        fixed = omega (arith, k .made .fixed);
+        address = omega (arith, k .placed .address);
+        configured = omega (arith, k .placed .configured);
+        listener = omega (arith, k .listens .listener);
+        talker = omega (arith, k .talks .talker);
+        service = omega (arith, k .serves .service);
+        noted = omega (arith, k .talks .noted);
+        status = k .sized .status;
+        accessory = k .sized .accessory;
+        idlength = omega (arith, k .made .idlength);
+        loadlength = omega (arith, k .loads .loadlength);
+        sent = omega (arith, k .loads .sent, k .loads .loadlength);
+        last = omega (arith, k .talks .last);
+        replied = replied-small;
+        id = k .sized .id;
+        load = k .sized .load;
+        idsize = k .sized .idsize;
+        loadsize = k .sized .loadsize;
+      }
+
   pub good-of : Good d
   unfolding soundDevice
-  good-of =
-      record {
-        fits =
-            record {
-              status = k .sized .status;
-              accessory = k .sized .accessory;
-              id = k .sized .id;
-              load = k .sized .load;
-              idsize = k .sized .idsize;
-              loadsize = k .sized .loadsize;
-            };
-        sound = joined (clauses d) sound-of;
-      }
+  good-of = record { fits = fits-of; sound = joined (clauses d) sound-of }

@@ -3,14 +3,12 @@
 use Prim.Native.Nat.{ℕ, _-_, _≤_, _<_}
 use mathlib.Core.Path.{_≡_, refl}
 use mathlib.Core.Bool.{Bool, true}
-use mathlib.Core.List.{List, [], _∷_}
 use native.Mathlib.Omega.{arith}
 use lib.Dec.{eqb, ltb}
 use lib.ListN.{length}
 use borrow.Author.Tests.{eqb-true, eqb-false, ltb-true, ltb-false}
 use Rattle.frame.specs.declared.Kind.the-variants.{Aad}
-use Rattle.frame.specs.Messages.{kindAt, firstOf, codesOf, messages, firstIn, codesIn}
-use Rattle.frame.proofs.Rows.{within-kind}
+use Rattle.frame.specs.Messages.{kindAt, firstOf, messages, firstIn}
 use Rattle.device.specs.Choose.{choose}
 use Rattle.device.specs.Device.{has, talks, sendData, status, sending}
 use Rattle.device.specs.Change.{listening, talking}
@@ -18,17 +16,20 @@ use Rattle.device.specs.Commands.{lad, tad, ifc, aau}
 use Rattle.device.specs.Reply.{sends, marked, eto, ete}
 use Rattle.device.specs.Ready.{requested, polls, sst, nrd, aad}
 use Rattle.device.specs.Data.{returned, heard, dataOrEnd}
-use Rattle.device.specs.Take.{Rule, number, rules, select, takes}
+use Rattle.device.specs.Take.{number, rules, takes}
 use Rattle.local.specs.Local.{loads, setsStatus, wishing, wishes}
 use Rattle.device.specs.declared.Device.{Device}
-use Rattle.device.specs.Sent.{Sent}
+use Rattle.device.specs.Sentences.{Of}
+use Rattle.device.proofs.Classes.{aad-codes}
+use Rattle.device.proofs.Chosen.{chosen, selected}
+use Rattle.device.proofs.Marked.{marked-below}
 use Rattle.local.specs.Local.{Called}
 use Rattle.record.specs.Fits.{Good}
-use Rattle.keeps.specs.Keeps.{TakeKeeps, TakeBelow, LoadKeeps, StatusKeeps, WishKeeps, LeavingZeroes}
+use Rattle.keeps.specs.Keeps.{TakeKeeps, TakeBelow, LoadKeeps, StatusKeeps, WishKeeps}
 use Rattle.keeps.proofs.Groups.{Kept, kept-of, good-of, lt-out}
 use Rattle.keeps.proofs.Changes.{listening-kept, resting-kept, placed-kept, serving-kept, noting-kept}
 use Rattle.keeps.proofs.Changes.{loading-kept, statusing-kept}
-use Rattle.keeps.proofs.Replies.{chosen, Out, marked-below, others, Sends, stops-out, continues-out}
+use Rattle.keeps.proofs.Replies.{Out, others, Sends, stops-out, continues-out}
 
 -- the frame goes on, and the device after it is sound
 passes : (d : Device) (f : ℕ) → Kept d → Out f (sends d f)
@@ -153,12 +154,10 @@ module _ (d : Device) (k : Kept d) (f : ℕ) where
   nrd-kept = chosen Kept (sending d) _ d (λ e. noting-kept d k (ltb-true _ _ e)) (λ e. k)
 
   -- an address taken is 0 to 30, and so the frame plus one is a frame
-  aad-out : kindAt f ≡ 34 → Out f (aad d f (number Aad f))
-  unfolding aad firstOf codesOf messages firstIn codesIn
+  aad-out : Of Aad f → Out f (aad d f (number Aad f))
+  unfolding aad firstOf messages firstIn
   aad-out e =
-      let w = within-kind f 34 e (omega arith) in
-      let lo : 1408 ≤ f = w .0 in
-      let hi : f < 1439 = w .1 in
+      let w = aad-codes f e in
       chosen (Out f) (eqb (d .configured) 0) _ _
       (λ c. chosen (Out f) (has d 32) _ _
       (λ h. record {
@@ -208,58 +207,25 @@ module _ (d : Device) (k : Kept d) (f : ℕ) where
 
 -- ---- whichever rule is selected
 
-abbrev Each : (Rule → Type 0) → List Rule → Type 0
-Each P [] = Unit {0}
-Each P (r ∷ rs) = P r × Each P rs
-
-selected : (P : Sent → Type 0) (k : ℕ) (rs : List Rule) (s : Sent) → Each (λ r. k ≡ r .kind → P (r .gives)) rs → P s →
-    P (select k rs s)
-selected P k [] s e h = h
-selected P k (r ∷ rs) s e h = chosen P (eqb k (r .kind)) _ _ (λ t. e .0 (eqb-true _ _ t))
-    (λ t. selected P k rs s (e .1) h)
-
 take-out : (d : Device) (f : ℕ) → Kept d → Out f (takes d f)
 unfolding takes
 take-out d f k =
-    let go : (e : Device) → Kept e → Out f (sends e f) = λ e h. passes e f h in
-    selected (Out f) (kindAt f) (rules d f) (sends d f) (
-      λ e. go _ (lad-kept d k _),
-      (
-        λ e. go _ (deaf-kept d k),
-        (
-          λ e. go _ (tad-kept d k _),
-          (
-            λ e. go _ (idle-kept d k),
-            (
-              λ e. go _ (ifc-kept d k),
-              (
-                λ e. go _ (aau-kept d k),
-                (
-                  λ e. requested-out d k f 2 2 (to-data d k),
-                  (
-                    λ e. sst-out d k f,
-                    (
-                      λ e. requested-out d k f 8 4 (to-id d k),
-                      (
-                        λ e. requested-out d k f 16 5 (to-accessory d k),
-                        (
-                          λ e. go _ (nrd-kept d k f),
-                          (
-                            λ e. aad-out d k f e,
-                            (λ e. data-out d k f, (λ e. data-out d k f, (λ e. marked-out d k f, tt))),
-                          ),
-                        ),
-                      ),
-                    ),
-                  ),
-                ),
-              ),
-            ),
-          ),
-        ),
-      ),
-    )
-    (passes d f k)
+    selected (Out f) (kindAt f) (rules d f) (sends d f) (passes d f k)
+    (λ e. passes _ f (lad-kept d k _))
+    (λ e. passes _ f (deaf-kept d k))
+    (λ e. passes _ f (tad-kept d k _))
+    (λ e. passes _ f (idle-kept d k))
+    (λ e. passes _ f (ifc-kept d k))
+    (λ e. passes _ f (aau-kept d k))
+    (λ e. requested-out d k f 2 2 (to-data d k))
+    (λ e. sst-out d k f)
+    (λ e. requested-out d k f 8 4 (to-id d k))
+    (λ e. requested-out d k f 16 5 (to-accessory d k))
+    (λ e. passes _ f (nrd-kept d k f))
+    (λ e. aad-out d k f e)
+    (λ e. data-out d k f)
+    (λ e. data-out d k f)
+    (λ e. marked-out d k f)
 
 -- ---- the theorems
 
@@ -268,10 +234,6 @@ take-keeps d f g = good-of (takes d f .device) (take-out d f (kept-of d g) .devi
 
 pub take-below : TakeBelow
 take-below d f g h = take-out d f (kept-of d g) .frame h
-
-pub leaving-zeroes : LeavingZeroes
-leaving-zeroes d f g h =
-    let t = take-out d f (kept-of d g) .device .talks in (t .quiet h .0, t .quiet h .1, t .none (omega arith))
 
 pub take-good : (d : Device) (f : ℕ) → Good d → f < 2048 → Good (takes d f .device) × (takes d f .frame < 2048)
 take-good d f g h = (take-keeps d f g, take-below d f g h)

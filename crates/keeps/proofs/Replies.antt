@@ -1,6 +1,6 @@
 -- A talker's replies keep it sound: what it sends is a byte with its bits, and it counts no further than the reply is
 -- long.
-use Prim.Native.Nat.{ℕ, zero, suc, _+_, _*_, _/_, _%_, _≤_, _<_}
+use Prim.Native.Nat.{ℕ, zero, suc, _+_, _≤_, _<_}
 use mathlib.Core.Path.{_≡_, refl}
 use mathlib.Core.Bool.{Bool, true, false, _||_}
 use native.Mathlib.Omega.{arith}
@@ -12,32 +12,15 @@ use Rattle.device.specs.Device.{has, talks}
 use Rattle.device.specs.Reply.{eto, marked, stops, dataFrame, otherByte, otherLength, sendsData, sendsOther, continues}
 use Rattle.device.specs.declared.Device.{Device}
 use Rattle.device.specs.Sent.{Sent}
+use Rattle.device.proofs.Chosen.{chosen}
+use Rattle.device.proofs.Marked.{marked-below}
 use Rattle.keeps.proofs.Groups.{Kept, Sized, Made, Placed, Listens, Serves, Loads}
 use Rattle.keeps.proofs.Changes.{rested}
-
--- what holds of both values holds of the one that is chosen
-pub chosen : {A : Type 0} (P : A → Type 0) (b : Bool) (x y : A) → (b ≡ true → P x) → (b ≡ false → P y) →
-    P (choose b x y)
-unfolding choose
-chosen P true x y h k = h refl
-chosen P false x y h k = k refl
 
 -- a sound device and, where f is below 2,048, a frame below 2,048
 pub record Out (f : ℕ) (s : Sent) : Type 0 where
   pub device : Kept (s .device)
   pub frame : f < 2048 → s .frame < 2048
-
-clear : (f m : ℕ) → (f / 256 % 2 ≡ 1 → ⊥) → f < 512 * m → f + 256 < 512 * m
-clear f m e h = omega arith
-
--- C1 set or not, a frame stays below a multiple of 512
-pub marked-below : (d : Device) (f m : ℕ) → f < 512 * m → marked d f < 512 * m
-unfolding marked
-marked-below d f m h =
-    chosen (λ x. x < 512 * m) (eqb (d .service) 1) _ f
-    (λ e. chosen (λ x. x < 512 * m) (eqb (f / 256 % 2) 1) f (f + 256) (λ e. h)
-    (λ e. clear f m (eqb-false (f / 256 % 2) 1 e) h))
-    (λ e. h)
 
 -- all groups but the talker's
 abbrev pub Others : Device → Type 0

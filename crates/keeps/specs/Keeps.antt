@@ -1,9 +1,7 @@
 -- A sound device stays sound, whatever it is given: statements, proved in proofs/Keeps.antt.
-use Prim.Native.Nat.{ℕ, _<_, _≤_}
-use mathlib.Core.Path.{_≡_}
+use Prim.Native.Nat.{ℕ, _<_}
 use mathlib.Core.List.{List}
 use Rattle.frame.specs.Messages.{frames}
-use Rattle.device.specs.Device.{addressed}
 use Rattle.device.specs.Take.{takes}
 use Rattle.local.specs.Local.{loads, setsStatus, wishes}
 use Rattle.device.specs.declared.Device.{Device}
@@ -26,9 +24,3 @@ StatusKeeps = (d : Device) (s : ℕ) → s < 256 → Good d → Good (setsStatus
 
 abbrev pub WishKeeps : Type 0
 WishKeeps = (d : Device) (w : ℕ) → Good d → Good (wishes d w .device)
-
--- Leaving states 2-5 zeroes bytes 8, 14, 15 and 16
-abbrev pub LeavingZeroes : Type 0
-LeavingZeroes =
-    (d : Device) (f : ℕ) → Good d → takes d f .device .talker ≤ addressed →
-    (takes d f .device .noted ≡ 0) × (takes d f .device .last ≡ 0) × (takes d f .device .replied ≡ 0)

@@ -1,16 +1,17 @@
 -- The set-up of line 1: refused but for 1 to 15 devices, and otherwise the same whatever the area held before.
-use Prim.Native.Nat.{ℕ, zero, suc, _+_, _-_, _*_, _≤_, _<_}
+use Prim.Native.Nat.{ℕ, _+_, _*_, _≤_, _<_}
 use mathlib.Core.Path.{_≡_, refl, ap, _∙_}
-use mathlib.Core.List.{List, [], _∷_, _++_, map}
+use mathlib.Core.List.{List, [], _∷_, map}
 use mathlib.Core.Bool.{Bool, true, false, _&&_, cond}
 use native.Mathlib.Omega.{arith}
-use lib.Dec.{eqb, leb, lit<}
+use lib.Dec.{eqb, leb}
 use lib.ListN.{length, replicate, length-map, length-replicate}
 use borrow.Author.Tests.{eq-eqb, eqb-true, leb-true, le-leb}
 use Rattle.device.specs.PowerOn.{powerOn}
 use Rattle.record.specs.Fits.{Bytes}
 use Rattle.record.specs.Sound.{allowed}
 use Rattle.record.proofs.Both.{left, right}
+use Rattle.record.proofs.Bytes.{small-bytes, zeros-small, bytes-append}
 use Rattle.area.specs.Sizes.{mostDevices, itemSize, areaSize}
 use Rattle.area.specs.Parts.{all, join}
 use Rattle.area.specs.Loop.{shape, unsound, areaOf}
@@ -80,28 +81,17 @@ powered items n s f e b h =
 
 -- ---- the items are bytes
 
-bytes-more : (x : ℕ) (b : List ℕ) → x < 256 → Bytes b → Bytes (x ∷ b)
-bytes-more x b p h zero = p
-bytes-more x b p h (suc i) = h i
-
 two-digits : (g : List ℕ) → groupRight g ≡ true → (numberAt 1 2 g < 256) × (numberAt 3 2 g < 256)
 two-digits g h = let d = group-digits g h in (omega arith, omega arith)
 
-item-bytes : (g b : List ℕ) → groupRight g ≡ true → Bytes b → Bytes (itemOf g ++ b)
-item-bytes g b h s =
-    let d = two-digits g h in
-    bytes-more (numberAt 1 2 g) (numberAt 3 2 g ∷ (replicate 10 0 ++ b)) (d .0)
-    (bytes-more (numberAt 3 2 g) (replicate 10 0 ++ b) (d .1) (zeros 10))
-  where
-    zeros : (k : ℕ) → Bytes (replicate k 0 ++ b)
-    zeros zero = s
-    zeros (suc k) = bytes-more 0 (replicate k 0 ++ b) (omega arith) (zeros k)
+item-bytes : (g : List ℕ) → groupRight g ≡ true → Bytes (itemOf g)
+item-bytes g h = small-bytes (itemOf g) (omega (arith, two-digits g h))
 
 groups-bytes : (gs : List (List ℕ)) → all groupRight gs ≡ true → Bytes (join (map itemOf gs))
 unfolding all join
-groups-bytes [] h = λ i. lit< tt
+groups-bytes [] h = zeros-small 0
 groups-bytes (g ∷ gs) h =
-    item-bytes g (join (map itemOf gs)) (left (groupRight g) (all groupRight gs) h)
+    bytes-append (itemOf g) (join (map itemOf gs)) (item-bytes g (left (groupRight g) (all groupRight gs) h))
     (groups-bytes gs (right (groupRight g) (all groupRight gs) h))
 
 -- ---- what a right line 1 says

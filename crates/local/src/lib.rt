@@ -13,6 +13,7 @@ use record::write::clear;
 ghost use mathlib.Core.Path.{_≡_};
 ghost use Prim.Native.Nat.{_≤_};
 ghost use lib.ListN.{length};
+ghost use Rattle.device.specs.Device.{mostData};
 ghost use Rattle.device.specs.PowerOn.{bytesFrom};
 ghost use Rattle.device.specs.Change.{loading};
 ghost use Rattle.record.specs.Record.{deviceOf, recordOf};
@@ -28,15 +29,15 @@ const BUSY: u8 = 9;
 
 // The bytes, and zeros behind them.
 fn fill(to: &mut [u8], bytes: &[u8])
-    requires { ⌜ (length (now bytes) ≤ 32) × (length (now to) ≡ 32) ⌝ }
-    ensures { λ _. ⌜ now (to .exit) ≡ bytesFrom 0 32 (now (bytes .entry)) ⌝ }
+    requires { ⌜ (length (now bytes) ≤ mostData) × (length (now to) ≡ mostData) ⌝ }
+    ensures { λ _. ⌜ now (to .exit) ≡ bytesFrom 0 mostData (now (bytes .entry)) ⌝ }
 {
     clear(to);
     bytes::copy(bytes, to);
 }
 
 fn loading(rec: &mut [u8], bytes: &[u8])
-    requires { ⌜ IsRecord (now rec) × (length (now bytes) ≤ 32) ⌝ }
+    requires { ⌜ IsRecord (now rec) × (length (now bytes) ≤ mostData) ⌝ }
     ensures { λ _. ⌜ now (rec .exit) ≡ recordOf (loading (deviceOf (now (rec .entry))) (now (bytes .entry))) ⌝ }
 {
     rec[LOAD_LENGTH] = bytes.len() as u8;

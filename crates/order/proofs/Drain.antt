@@ -23,7 +23,7 @@ greatest-passes test (suc n) i e = go (test n) refl e (λ e. greatest-passes tes
     go true h e v = let same : n ≡ i = cc in rw same at h
     go false h e v = v e
 
-none-same : {A : Type 0} (i j : ℕ) → ifSame {A = A} i j [] ≡ []
+pub none-same : {A : Type 0} (i j : ℕ) → ifSame {A = A} i j [] ≡ []
 none-same zero zero = refl
 none-same zero (suc j) = refl
 none-same (suc i) zero = refl

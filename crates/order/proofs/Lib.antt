@@ -10,4 +10,5 @@ pub mod Owed
 pub mod Rounds
 pub mod Streams
 pub mod Through
+pub mod Turns
 pub mod Written

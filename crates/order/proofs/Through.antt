@@ -5,8 +5,8 @@ use mathlib.Core.Path.{_≡_, refl, sym, _∙_, ap}
 use mathlib.Core.List.{List, [], _∷_, _++_, append-assoc}
 use Rattle.order.specs.Line.{Line, Loop, Call, Event, answer, firstly, run}
 use Rattle.order.specs.History.{each, total}
-use Rattle.order.specs.Through.{Rendering, callsOf, answersOf, Through, SameArea, readEach, readTotal, ReadEach}
-use Rattle.order.specs.Through.{ReadTotal}
+use Rattle.order.specs.Through.{Rendering, Every, callsOf, answersOf, Through, SameArea, readEach, readTotal}
+use Rattle.order.specs.Through.{Tells, ReadEach, ReadTotal}
 use Rattle.order.proofs.Order.{from-any-loop}
 
 module _ {L : Line} where
@@ -38,15 +38,14 @@ module _ {L : Line} where
         ap (λ p. p .0) ((through l ref g) .0) ∙ rw (c, u .ran, e) refl ∙ sym (ap (λ p. p .0) ((through l os g) .0))
 
     -- what the answers of answersOf tell
-    told-each : {A : Type 0} (g : Op → Answer → List A) (e : Event L → List A)
-        → ((l : Loop L) (o : Op) → Good l → g o (said o l ((run l (calls o)) .1)) ≡ each e ((run l (calls o)) .1))
-        → (l : Loop L) (os : List Op) → Good l → readEach R g os (answersOf R l os) ≡ each e ((run l (callsOf R os)) .1)
-    told-each g e h l [] u = refl
-    told-each g e h l (o ∷ os) u = let v = told-each g e h ((run l (calls o)) .0) os (keeps l o u) in
-        rw (run-append l (calls o) (callsOf R os), each-append e ((run l (calls o)) .1), h l o u, v)
+    told-each : {A : Type 0} (g : Op → Answer → List A) (e : Event L → List A) (os : List Op) → Every (Tells R g e) os
+        → (l : Loop L) → Good l → readEach R g os (answersOf R l os) ≡ each e ((run l (callsOf R os)) .1)
+    told-each g e [] h l u = refl
+    told-each g e (o ∷ os) h l u = let v = told-each g e os (h .1) ((run l (calls o)) .0) (keeps l o u) in
+        rw (run-append l (calls o) (callsOf R os), each-append e ((run l (calls o)) .1), (h .0) l u, v)
 
     pub read-each : ReadEach R
-    read-each A g e h l os u = rw ((through l os u) .0) (told-each g e h l os u)
+    read-each A g e os h l u = rw ((through l os u) .0) (told-each g e os h l u)
 
     told-total : (g : Op → Answer → ℕ) (e : Event L → ℕ)
         → ((l : Loop L) (o : Op) → Good l → g o (said o l ((run l (calls o)) .1)) ≡ total e ((run l (calls o)) .1))

@@ -20,13 +20,30 @@ ifSame zero (suc j) xs = []
 ifSame (suc i) zero xs = []
 ifSame (suc i) (suc j) xs = ifSame i j xs
 
+-- the sum of g at the numbers below n
+abbrev pub sumOver : ℕ → (ℕ → ℕ) → ℕ
+sumOver zero g = 0
+sumOver (suc n) g = sumOver n g + g n
+
 -- none or one, as a list
 abbrev pub listed : {A : Type 0} → Option A → List A
 listed none = []
 listed (some a) = a ∷ []
 
 module _ {L : Line} where
-  open Line L using (Frame, Byte)
+  open Line L using (Frame, Local, Byte)
+
+  -- the local calls among a device's turns
+  abbrev pub callsIn : List (Turn L) → List Local
+  callsIn [] = []
+  callsIn (hops ∷ t) = callsIn t
+  callsIn (does c ∷ t) = c ∷ callsIn t
+
+  -- and how many of them are hops
+  abbrev pub hopsIn : List (Turn L) → ℕ
+  hopsIn [] = 0
+  hopsIn (hops ∷ t) = suc (hopsIn t)
+  hopsIn (does c ∷ t) = hopsIn t
 
   -- ---- What one event adds
 

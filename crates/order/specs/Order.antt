@@ -9,7 +9,7 @@ use lib.ListN.{length}
 use Rattle.order.specs.Line.{Line, Loop, tail, cell, idle, devices, push, hopAt, takeOut, callAt, accepts}
 use Rattle.order.specs.Line.{highest, Call, hop, Event, hopped, Stop, no-hop, spent, handing, draining, run}
 use Rattle.order.specs.Flat.{statesOf}
-use Rattle.order.specs.History.{ifSame, puts, taken, handed, turns, hopsMade, refusals}
+use Rattle.order.specs.History.{ifSame, sumOver, hopsIn, puts, taken, handed, turns, hopsMade, refusals}
 use Rattle.order.specs.RightRound.{first, rightRound, oneByOne, owed}
 
 -- The calls ref on l come to the same as a history on l that left l′ and in which es happened:
@@ -52,6 +52,11 @@ module _ (L : Line) where
       → run l cs₁ ≡ (idle ss₁, es₁) → run l cs₂ ≡ (idle ss₂, es₂)
       → puts es₁ ≡ puts es₂ → ((i : ℕ) → turns es₁ i ≡ turns es₂ i)
       → (ss₁ ≡ ss₂) × (taken es₁ ≡ taken es₂) × ((i : ℕ) → handed es₁ i ≡ handed es₂ i) × (hopsMade es₁ ≡ hopsMade es₂)
+
+  -- The hops in the turns of all devices, together, are the hops made.
+  abbrev pub TurnsAddUp : Type 0
+  TurnsAddUp = (l l′ : Loop L) (cs : List (Call L)) (es : List (Event L)) → run l cs ≡ (l′, es)
+      → sumOver (devices l) (λ i. hopsIn (turns es i)) ≡ hopsMade es
 
   -- ---- Hops owed
 

@@ -94,12 +94,14 @@ module _ {L : Line} (R : Rendering L) where
   readTotal g (o ∷ os) [] = 0
   readTotal g (o ∷ os) (r ∷ rs) = g o r + readTotal g os rs
 
+  -- the answer of a call tells what happened in it
+  abbrev pub Tells : {A : Type 0} → (Op → Answer → List A) → (Event L → List A) → Op → Type 0
+  Tells g e o = (l : Loop L) → Good l → g o (said o l ((run l (calls o)) .1)) ≡ each e ((run l (calls o)) .1)
+
   -- If each answer tells what happened in its call, then all answers tell what happened in the history.
   abbrev pub ReadEach : Type 1
-  ReadEach = (A : Type 0) (g : Op → Answer → List A) (e : Event L → List A)
-      → ((l : Loop L) (o : Op) → Good l → g o (said o l ((run l (calls o)) .1)) ≡ each e ((run l (calls o)) .1))
-      → (l : Loop L) (os : List Op) → Good l
-      → readEach g os ((history (render l) os) .1) ≡ each e ((run l (callsOf os)) .1)
+  ReadEach = (A : Type 0) (g : Op → Answer → List A) (e : Event L → List A) (os : List Op) → Every (Tells g e) os
+      → (l : Loop L) → Good l → readEach g os ((history (render l) os) .1) ≡ each e ((run l (callsOf os)) .1)
 
   abbrev pub ReadTotal : Type 0
   ReadTotal = (g : Op → Answer → ℕ) (e : Event L → ℕ)

@@ -2,11 +2,11 @@
 mod kinds;
 
 ghost use mathlib.Core.Path.{_≡_};
-ghost use Rattle.frame.specs.Messages.{kindAt};
+ghost use Rattle.frame.specs.Coding.{decodeOf};
 
-// The kind number of a frame, from the published table, and 0 for a number over 2,047.
+// The entry of the published table at a frame: the decoder's kind there, and 0 for a number over 2,047.
 pub fn kind(frame: u64) -> u8
-    ensures { λ r. ⌜ r ≡ kindAt frame ⌝ }
+    ensures { λ r. ⌜ r ≡ decodeOf frame .kind ⌝ }
 {
     if frame < frame::FRAMES as u64 {
         kinds::KINDS[frame as usize]

@@ -1,13 +1,12 @@
 -- The laws of specs/Laws.antt. Head, ID and data stand at fixed places, so that each field is read where it was
--- written; a sound
--- record's other bytes are zero, as those of a written one are.
+-- written; a sound record's other bytes are zero, as those of a written one are.
 use mathlib.Core.Path.{_≡_, refl, sym, ap, _∙_}
 use mathlib.Core.List.{List, [], _∷_, _++_}
 use mathlib.Core.Bool.{true, _&&_}
-use Prim.Native.Nat.{ℕ, zero, suc, _+_, _*_, _/_, _%_, _≤_, _<_}
+use Prim.Native.Nat.{ℕ, _+_, _*_, _/_, _%_, _≤_, _<_}
 use native.Mathlib.Omega.{arith}
 use lib.Dec.{eqb}
-use lib.ListN.{length, getD, take, drop, replicate, length-drop, length-replicate, take-append-drop}
+use lib.ListN.{length, getD, take, drop, length-drop, length-replicate, take-append-drop}
 use lib.Seq.{drop-drop, take-all}
 use borrow.Author.Tests.{eqb-true}
 use Rattle.device.specs.Device.{mostID, mostData}
@@ -17,8 +16,9 @@ use Rattle.device.proofs.Bytes.{bytes-wide, bytes-all, take-bytes}
 use Rattle.record.specs.Record.{headOf, deviceOf, recordOf, zeros}
 use Rattle.record.specs.Sound.{soundDevice, soundRecord, allowed}
 use Rattle.record.specs.Fits.{Bytes, Fits, Good}
-use Rattle.record.specs.Laws.{RecordWide, ReadWritten, WriteRead, WriteSound, ReadSound, PowerOnSound}
+use Rattle.record.specs.Laws.{RecordWide, ReadWritten, WriteRead, WriteSound, ReadSound, GoodBytes, PowerOnSound}
 use Rattle.record.proofs.Both.{left, right}
+use Rattle.record.proofs.Bytes.{small-bytes, zeros-small, bytes-small, bytes-append}
 
 pub record-wide : RecordWide
 unfolding recordOf bytesFrom
@@ -127,19 +127,25 @@ pub record-sound : WriteSound
 unfolding soundRecord
 record-sound d f s = rw (record-again d f) (spared d s)
 
--- the bytes of a list of bytes are bytes
-pub bytes-small : (b : List ℕ) (k n : ℕ) → Bytes b → Bytes (bytesFrom k n b)
-unfolding bytesFrom
-bytes-small b k zero h i = omega arith
-bytes-small b k (suc n) h zero = h k
-bytes-small b k (suc n) h (suc i) = bytes-small b (suc k) n h i
-
 read-fits : (b : List ℕ) → Bytes b → Fits (deviceOf b)
 unfolding deviceOf
 read-fits b h =
     record {
+      abilities = h 0;
+      fixed = h 1;
+      address = h 2;
+      configured = h 3;
+      listener = h 4;
+      talker = h 5;
+      service = h 6;
+      noted = h 8;
       status = h 9;
       accessory = h 10;
+      idlength = h 11;
+      loadlength = h 12;
+      sent = h 13;
+      last = omega (arith, h 14, h 15);
+      replied = h 16;
       id = bytes-small b 24 mostID h;
       load = bytes-small b 32 mostData h;
       idsize = bytes-wide 24 mostID b;
@@ -154,10 +160,14 @@ pub blank-good : Good (deviceOf [])
 unfolding deviceOf soundDevice bytesFrom zeros
 blank-good = record { fits = read-fits [] (λ i. omega arith); sound = refl }
 
-zeros-small : (n : ℕ) → Bytes (replicate n 0)
-zeros-small zero i = omega arith
-zeros-small (suc n) zero = omega arith
-zeros-small (suc n) (suc i) = zeros-small n i
+pub good-bytes : GoodBytes
+unfolding recordOf
+good-bytes d g =
+    let f = g .fits in
+    let id = bytesFrom 0 mostID (d .id) in
+    let load = bytesFrom 0 mostData (d .load) in
+    bytes-append (headOf d) (id ++ load) (small-bytes (headOf d) (omega (arith, f)))
+    (bytes-append id load (bytes-small (d .id) 0 mostID (f .id)) (bytes-small (d .load) 0 mostData (f .load)))
 
 pub power-good : PowerOnSound
 unfolding allowed powerOn
@@ -165,8 +175,21 @@ power-good item h a =
     record {
       fits =
           record {
+            abilities = h 0;
+            fixed = h 1;
+            address = h 1;
+            configured = omega arith;
+            listener = omega arith;
+            talker = omega arith;
+            service = omega arith;
+            noted = omega arith;
             status = omega arith;
             accessory = h 2;
+            idlength = h 3;
+            loadlength = omega arith;
+            sent = omega arith;
+            last = omega arith;
+            replied = omega arith;
             id = bytes-small item 4 mostID h;
             load = zeros-small mostData;
             idsize = bytes-wide 4 mostID item;

@@ -1,6 +1,7 @@
--- The laws of records, and what they rest on: tests joined, parts put into bytes, bytes that are zero.
+-- The laws of records, and what they rest on: tests joined, parts put into bytes, lists of bytes, bytes that are zero.
 pub mod Both
 pub mod Parts
 pub mod Places
 pub mod Zeros
+pub mod Bytes
 pub mod Laws

@@ -13,10 +13,23 @@ use Rattle.record.specs.Sound.{soundDevice}
 abbrev pub Bytes : List ℕ → Type 0
 Bytes b = (i : ℕ) → getD b i 0 < 256
 
--- what is sent of a device is bytes, and its arrays have their lengths
+-- each value is a byte, the last frame sent two of them, and the arrays have their lengths
 pub record Fits (d : Device) : Type 0 where
+  pub abilities : d .abilities < 256
+  pub fixed : d .fixed < 256
+  pub address : d .address < 256
+  pub configured : d .configured < 256
+  pub listener : d .listener < 256
+  pub talker : d .talker < 256
+  pub service : d .service < 256
+  pub noted : d .noted < 256
   pub status : d .status < 256
   pub accessory : d .accessory < 256
+  pub idlength : d .idlength < 256
+  pub loadlength : d .loadlength < 256
+  pub sent : d .sent < 256
+  pub last : d .last < 65536
+  pub replied : d .replied < 256
   pub id : Bytes (d .id)
   pub load : Bytes (d .load)
   pub idsize : length (d .id) ≡ mostID

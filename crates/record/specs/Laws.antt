@@ -1,5 +1,5 @@
--- The laws of records, as statements: reading and writing undo each other, and soundness is that of the device read.
--- Their proofs are in proofs/Laws.antt.
+-- The laws of records, as statements: reading and writing undo each other, soundness is that of the device read, and
+-- what is written is bytes. Their proofs are in proofs/Laws.antt.
 use Prim.Native.Nat.{ℕ}
 use mathlib.Core.Path.{_≡_}
 use mathlib.Core.Bool.{true}
@@ -29,6 +29,10 @@ WriteSound = (d : Device) → Fits d → soundDevice d ≡ true → soundRecord 
 
 abbrev pub ReadSound : Type 0
 ReadSound = (b : List ℕ) → Bytes b → soundRecord b ≡ true → Good (deviceOf b)
+
+-- The record of a device that a sound area holds is bytes
+abbrev pub GoodBytes : Type 0
+GoodBytes = (d : Device) → Good d → Bytes (recordOf d)
 
 -- Power-on is sound where the item is allowed
 abbrev pub PowerOnSound : Type 0

@@ -1,4 +1,5 @@
--- When a record is sound, clause by clause in the order of 01's "Sound means"; the same clauses judge a set-up item.
+-- When a record is sound: the clauses of 01's "Sound means" on a record, in its order, and its zero bytes; a set-up
+-- item is judged by the same clauses. That frames are below 2,048 is said of links, in area.
 use Prim.Native.Nat.{ℕ}
 use mathlib.Core.List.{List}
 use mathlib.Core.Bool.{Bool, not, _&&_, _||_}

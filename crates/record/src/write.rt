@@ -1,9 +1,12 @@
 // Bytes put where they lie: zeros, a part, and the record of a whole device as set-up writes it.
+use crate::ID;
+use crate::LOAD;
 use device::Device;
 ghost use mathlib.Core.Path.{_≡_};
 ghost use Prim.Native.Nat.{_+_, _≤_};
 ghost use lib.ListN.{length, replicate};
-ghost use Rattle.record.specs.Record.{recordOf};
+ghost use Rattle.device.specs.Device.{mostID, mostData};
+ghost use Rattle.record.specs.Record.{recordSize, recordOf};
 ghost use Rattle.record.specs.Parts.{splice, Put};
 
 // All bytes become zero.
@@ -27,30 +30,30 @@ fn fill(to: &mut [u8], at: usize, part: &[u8])
 }
 
 // The three stretches of a record; an array's type says its length.
-fn put_head(rec: &mut [u8], head: &[u8; 24])
-    requires { ⌜ length (now rec) ≡ 64 ⌝ }
+fn put_head(rec: &mut [u8], head: &[u8; ID])
+    requires { ⌜ length (now rec) ≡ recordSize ⌝ }
     ensures { λ _. ⌜ Put 0 24 (now (head .entry)) (now (rec .entry)) (now (rec .exit)) ⌝ }
 {
     fill(rec, 0, head);
 }
 
-fn put_id(rec: &mut [u8], id: &[u8; 8])
-    requires { ⌜ length (now rec) ≡ 64 ⌝ }
-    ensures { λ _. ⌜ Put 24 8 (now (id .entry)) (now (rec .entry)) (now (rec .exit)) ⌝ }
+fn put_id(rec: &mut [u8], id: &[u8; Device::MOST_ID])
+    requires { ⌜ length (now rec) ≡ recordSize ⌝ }
+    ensures { λ _. ⌜ Put 24 mostID (now (id .entry)) (now (rec .entry)) (now (rec .exit)) ⌝ }
 {
-    fill(rec, 24, id);
+    fill(rec, ID, id);
 }
 
-fn put_load(rec: &mut [u8], load: &[u8; 32])
-    requires { ⌜ length (now rec) ≡ 64 ⌝ }
-    ensures { λ _. ⌜ Put 32 32 (now (load .entry)) (now (rec .entry)) (now (rec .exit)) ⌝ }
+fn put_load(rec: &mut [u8], load: &[u8; Device::MOST_DATA])
+    requires { ⌜ length (now rec) ≡ recordSize ⌝ }
+    ensures { λ _. ⌜ Put 32 mostData (now (load .entry)) (now (rec .entry)) (now (rec .exit)) ⌝ }
 {
-    fill(rec, 32, load);
+    fill(rec, LOAD, load);
 }
 
 // A record's bytes become those of a device.
 pub fn write(rec: &mut [u8], d: Device)
-    requires { ⌜ length (now rec) ≡ 64 ⌝ }
+    requires { ⌜ length (now rec) ≡ recordSize ⌝ }
     ensures { λ _. ⌜ now (rec .exit) ≡ recordOf d ⌝ }
 {
     let low = (d.last % 256) as u8;

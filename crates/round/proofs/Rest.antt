@@ -1,4 +1,5 @@
--- One frame under way: it is alone in its link, so there is room for it everywhere, and no call of its round is refused.
+-- One frame under way: it is alone in its link, so there is room for it everywhere, and no call of its round is
+-- refused.
 use Prim.Native.Nat.{ℕ, zero, suc, _+_, _≤_, _<_}
 use mathlib.Core.Path.{_≡_, refl, sym, ap, _∙_}
 use mathlib.Core.List.{List, [], _∷_}
@@ -63,7 +64,8 @@ put-accepted f l h e = put-done f l 0 h (rw (e 0))
 module _ (i : ℕ) (l : Loop) (s : Sound-loop l) (h : i < size l) (o : Alone i l) where
   hop-accepted : hopIn i l ≡
       done (hopAnswer (sentBy i (o .frame) l .frame) (sentBy i (o .frame) l .handed)) (passed i (o .frame) l)
-  hop-accepted = hop-done i l (o .frame) 0 h (rw (o .there)) (rw (o .others (suc i) (λ e. let z : ⊥ = omega arith in z)))
+  hop-accepted =
+      hop-done i l (o .frame) 0 h (rw (o .there)) (rw (o .others (suc i) (λ e. let z : ⊥ = omega arith in z)))
 
   hop-alone : Alone (suc i) (passed i (o .frame) l)
   hop-alone =

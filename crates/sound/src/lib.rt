@@ -38,7 +38,8 @@ fn in_range(rec: &[u8]) -> bool
                     & ((rec[TALKER] <= Device::SENDING_ACCESSORY_ID)
                         & ((rec[SERVICE] <= Device::POLLED)
                             & ((rec[NOTED] <= 1)
-                                & ((rec[ID_LENGTH] <= 8) & (rec[LOAD_LENGTH] <= 32))))))))
+                                & ((rec[ID_LENGTH] <= Device::MOST_ID as u8)
+                                    & (rec[LOAD_LENGTH] <= Device::MOST_DATA as u8))))))))
 }
 
 // 128 only with 4.
@@ -147,5 +148,6 @@ pub fn item_allowed(item: &[u8]) -> bool
     ensures { λ r. ⌜ r ≡ allowed (now (item .entry)) ⌝ }
 {
     (item[1] <= Device::NO_ADDRESS)
-        & ((item[3] <= 8) & (zero_past_length(&item[4..12], item[3]) & abilities_allowed(item[0])))
+        & ((item[3] <= Device::MOST_ID as u8)
+            & (zero_past_length(&item[4..12], item[3]) & abilities_allowed(item[0])))
 }

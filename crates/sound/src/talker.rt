@@ -52,7 +52,7 @@ fn data_right(rec: &[u8]) -> bool
     ensures { λ r. ⌜ r ≡ dataRight (deviceOf (now (rec .entry))) ⌝ }
 {
     (!(0 < rec[LOAD_LENGTH]) | has(rec, Device::SEND_DATA))
-        & ((rec[SENT] <= rec[LOAD_LENGTH]) & (word_at(rec, LAST) < 0x400))
+        & ((rec[SENT] <= rec[LOAD_LENGTH]) & (word_at(rec, LAST) < Device::PAST_LAST))
 }
 
 pub fn talker_right(rec: &[u8]) -> bool

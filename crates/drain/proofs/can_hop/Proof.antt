@@ -1,11 +1,10 @@
 -- Both lookups find something, or one of them nothing.
-use Prim.Native.Nat.{suc}
-use mathlib.Core.Path.{sym, _∙_}
+use mathlib.Core.Path.{sym, ap, _∙_}
 use native.Mathlib.Omega.{arith}
 use native.Mathlib.Numerals.{add-one}
-use Rattle.area.specs.Loop.{loopOf, link}
+use Rattle.area.specs.Loop.{loopOf}
 use Rattle.area.proofs.Areas.{sized}
-use Rattle.calls.proofs.Outcomes.{room-full, room-some}
+use Rattle.calls.specs.Drain.{hasRoom}
 use Rattle.calls.proofs.Turns.{can-empty, can-is}
 use borrow.Author.Needs.{needs}
 use Rattle.drain.proofs.can_hop.Statement.{statement}
@@ -30,8 +29,8 @@ returns-2 c =
     let o = e .before .before in
     let s = o .before .before in
     let l = loopOf (s .args .area .now) in
-    sym (can-is (s .args .i) _ l (sym (o .oldest-at .ensures) ∙ e .enum-told .given .1) ∙ room-full
-    (link l (suc (s .args .i))) (sym (rw add-one at (q .room-at .ensures)) ∙ c .enum-told4 .given .1))
+    sym (can-is (s .args .i) _ l (sym (o .oldest-at .ensures) ∙ e .enum-told .given .1)
+    ∙ ap hasRoom (sym (rw add-one at (q .room-at .ensures)) ∙ c .enum-told4 .given .1))
 
 returns-3 : tie.Need-returns-3
 returns-3 c =
@@ -40,8 +39,8 @@ returns-3 c =
     let o = e .before .before in
     let s = o .before .before in
     let l = loopOf (s .args .area .now) in
-    sym (can-is (s .args .i) _ l (sym (o .oldest-at .ensures) ∙ e .enum-told .given .1) ∙ room-some
-    (link l (suc (s .args .i))) _ (sym (rw add-one at (q .room-at .ensures)) ∙ c .enum-told3 .given .1))
+    sym (can-is (s .args .i) _ l (sym (o .oldest-at .ensures) ∙ e .enum-told .given .1)
+    ∙ ap hasRoom (sym (rw add-one at (q .room-at .ensures)) ∙ c .enum-told3 .given .1))
 
 pub can-hop-spec : {M : Type 1} → statement M
 can-hop-spec =

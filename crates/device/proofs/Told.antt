@@ -1,0 +1,242 @@
+-- What is told of every frame: four sentences of specs/Sentences.antt together, so that the rules are gone through
+-- once.
+use Prim.Native.Nat.{ℕ, _+_, _≤_, _<_}
+use mathlib.Core.Path.{_≡_, refl}
+use mathlib.Core.Logic.{inl, inr, ⊎-elim}
+use mathlib.Core.Bool.{Bool, true}
+use native.Mathlib.Omega.{arith}
+use native.Mathlib.Decide.{decLt}
+use lib.Dec.{eqb, ltb}
+use borrow.Author.Tests.{eqb-true, ltb-false}
+use Rattle.frame.specs.declared.Kind.the-variants.{Aad}
+use Rattle.frame.specs.Messages.{kindAt, messages, firstIn, firstOf, codesIn, codesOf}
+use Rattle.device.specs.Choose.{choose}
+use Rattle.device.specs.Device.{listen, status, autoAddress, unaddress, idle, addressed, sendingData}
+use Rattle.device.specs.Device.{sendingStatus, asking, has, talks, sending}
+use Rattle.device.specs.Change.{listening, talking, placed, counting}
+use Rattle.device.specs.Commands.{lad, tad, aau}
+use Rattle.device.specs.Reply.{eto, ete, sends, marked, stops, dataFrame, otherByte, otherLength, sendsData}
+use Rattle.device.specs.Reply.{sendsOther, continues}
+use Rattle.device.specs.Ready.{requested, polls, sst, nrd, aad}
+use Rattle.device.specs.Data.{dataBits, returned, heard, dataOrEnd}
+use Rattle.device.specs.Take.{rules, takes}
+use Rattle.device.specs.Classes.{IsCommand}
+use Rattle.device.specs.Sentences.{Of, HasC1, Sending, ShowsService, Zeroed}
+use Rattle.device.specs.declared.Device.{Device}
+use Rattle.device.specs.declared.Handed.{Handed}
+use Rattle.device.specs.declared.Handed.the-variants.{Nothing}
+use Rattle.device.specs.Sent.{Sent}
+use Rattle.device.proofs.Dispatch.{outside, elsewhere}
+use Rattle.device.proofs.Classes.{data-frame, idy-frame, aad-codes}
+use Rattle.device.proofs.Chosen.{chosen, selected}
+use Rattle.device.proofs.Marked.{marked-asks}
+
+-- e has d's talker state, or bytes 8, 14, 15, 16 zero
+abbrev pub Left : Device → Device → Type 0
+Left d e = (e .talker ≡ d .talker → ⊥) → Zeroed e
+
+-- d, given the frame f, does s
+pub record Told (d : Device) (f : ℕ) (s : Sent) : Type 0 where
+  pub command : IsCommand f → s .frame ≡ f
+  pub unhanded : Sending d → s .handed ≡ Nothing
+  pub left : Sending d → Left d (s .device)
+  pub shown : s .device .service ≡ asking → ShowsService (s .frame) → HasC1 (s .frame)
+
+stays : (d e : Device) → e .talker ≡ d .talker → Left d e
+stays d e q n = absurd (n q)
+
+zeroes : (d e : Device) (x : ℕ) → Left d (talking e x)
+zeroes d e x n = record { noted = refl; last = refl; replied = refl }
+
+-- a command or a ready frame
+no-service : (f : ℕ) → 0x400 ≤ f → f < 0x600 → ShowsService f → ⊥
+no-service f l h = ⊎-elim (λ i. omega (arith, i .past)) (λ i. omega (arith, i .first))
+
+data-asks : (d : Device) → d .service ≡ asking → HasC1 (dataFrame d)
+unfolding dataFrame
+data-asks d a =
+    chosen HasC1 (eqb (d .sent + 1) (d .loadlength)) _ _ (λ e. marked-asks d _ a) (λ e. marked-asks d _ a)
+
+-- ---- commands, and NRD
+
+module _ (d : Device) where
+  lad-left : (a : ℕ) → Left d (lad d a)
+  unfolding lad
+  lad-left a =
+      chosen (Left d) (eqb a (d .address)) _ d
+      (λ e. chosen (Left d) (has d listen) _ d
+      (λ h. chosen (Left d) (has d unaddress) _ _ (λ u. zeroes d (listening d 1) idle) (λ u. stays d _ refl))
+      (λ h. stays d d refl))
+      (λ e. stays d d refl)
+
+  tad-left : (a : ℕ) → Left d (tad d a)
+  unfolding tad
+  tad-left a =
+      chosen (Left d) (eqb a (d .address)) _ _
+      (λ e. chosen (Left d) (talks d) _ _
+      (λ h. chosen (Left d) (has d unaddress) _ _ (λ u. zeroes d (listening d 0) addressed)
+      (λ u. zeroes d d addressed))
+      (λ h. zeroes d d idle))
+      (λ e. zeroes d d idle)
+
+  aau-left : Left d (aau d)
+  unfolding aau
+  aau-left = chosen (Left d) (has d autoAddress) _ d (λ h. stays d _ refl) (λ h. stays d d refl)
+
+  nrd-left : Left d (nrd d)
+  unfolding nrd
+  nrd-left = chosen (Left d) (sending d) _ d (λ e. stays d _ refl) (λ e. stays d d refl)
+
+-- ---- rules for frames other than commands
+
+module _ (d : Device) (f : ℕ) (n : IsCommand f → ⊥) where
+  -- the frame goes on, C1 set if service is 1
+  marks : (h : Handed) → (Sending d → h ≡ Nothing) → Told d f (record { device = d; frame = marked d f; handed = h })
+  marks h k =
+      record {
+        command = λ c. absurd (n c);
+        unhanded = k;
+        left = λ s. stays d d refl;
+        shown = λ a s. marked-asks d f a;
+      }
+
+  -- the device e, which is d or is made of d, answers or replies
+  module _ (e : Device) where
+    stops-told : (x : ℕ) → 0x400 ≤ x → x < 0x600 → Told d f (stops e x)
+    stops-told x l h =
+        record {
+          command = λ c. absurd (n c);
+          unhanded = λ s. refl;
+          left = λ s. zeroes d e addressed;
+          shown = λ a s. absurd (no-service x l h s);
+        }
+
+    module _ (same : Sending d → e .talker ≡ d .talker) where
+      counting-told : (x s r : ℕ) → (e .service ≡ asking → HasC1 x) → Told d f (sends (counting e x s r) x)
+      counting-told x s r h =
+          record {
+            command = λ c. absurd (n c);
+            unhanded = λ s. refl;
+            left = λ s. stays d _ (same s);
+            shown = λ a s. h a;
+          }
+
+      data-told : Told d f (sendsData e)
+      unfolding sendsData
+      data-told = counting-told (dataFrame e) _ _ (data-asks e)
+
+      other-told : Told d f (sendsOther e)
+      unfolding sendsOther
+      other-told = counting-told (marked e (otherByte e)) _ _ (marked-asks e (otherByte e))
+
+      continues-told : Told d f (continues e)
+      unfolding continues
+      continues-told =
+          let ends = stops-told eto (omega arith) (omega arith) in
+          chosen (Told d f) (eqb (e .talker) sendingData) _ _
+          (λ t. chosen (Told d f) (ltb (e .sent) (e .loadlength)) _ _ (λ l. data-told) (λ l. ends))
+          (λ t. chosen (Told d f) (ltb (e .replied) (otherLength e)) _ _ (λ l. other-told) (λ l. ends))
+
+  returned-told : Told d f (returned d f)
+  unfolding returned
+  returned-told =
+      chosen (Told d f) (eqb (dataBits f) (dataBits (d .last))) _ _
+      (λ e. chosen (Told d f) (eqb (d .noted) 1) _ _ (λ e. stops-told d eto (omega arith) (omega arith))
+      (λ e. continues-told d (λ s. refl)))
+      (λ e. stops-told d ete (omega arith) (omega arith))
+
+  heard-told : d .talker ≤ addressed → Told d f (heard d f)
+  unfolding heard
+  heard-told t =
+      chosen (Told d f) (eqb (d .listener) 1) _ _ (λ e. marks _ (λ s. absurd (omega arith)))
+      (λ e. marks Nothing (λ s. refl))
+
+  dataOrEnd-told : Told d f (dataOrEnd d f)
+  unfolding dataOrEnd
+  dataOrEnd-told =
+      chosen (Told d f) (sending d) _ _ (λ e. returned-told) (λ e. heard-told (ltb-false addressed (d .talker) e))
+
+-- ---- frames that go on unchanged where no rule says otherwise
+
+module _ (d : Device) (f : ℕ) (q : ShowsService f → ⊥) where
+  passes : (e : Device) → Left d e → Told d f (sends e f)
+  passes e l =
+      record { command = λ c. refl; unhanded = λ s. refl; left = λ s. l; shown = λ a s. absurd (q s) }
+
+  still : Told d f (sends d f)
+  still = passes d (stays d d refl)
+
+  aad-told : Of Aad f → (a : ℕ) → Told d f (aad d f a)
+  unfolding aad
+  aad-told k a =
+      chosen (Told d f) (eqb (d .configured) 0) _ _
+      (λ c. chosen (Told d f) (has d autoAddress) _ _ (λ h. taken) (λ h. still)) (λ c. still)
+    where
+      taken : Told d f (sends (placed d a 1) (f + 1))
+      taken =
+          let w = aad-codes f k in
+          record {
+            command = λ c. omega (arith, c .past);
+            unhanded = λ s. refl;
+            left = λ s. stays d _ refl;
+            shown = λ a s. absurd (no-service (f + 1) (omega arith) (omega arith) s);
+          }
+
+  module _ (n : IsCommand f → ⊥) where
+    -- only an addressed device starts a reply, and that one is not sending
+    starts : (able : Bool) (e : Device) →
+        Told d f (choose (eqb (d .talker) addressed) (choose able (continues e) (sends d f)) (sends d f))
+    starts able e =
+        chosen (Told d f) (eqb (d .talker) addressed) _ _
+        (λ t. chosen (Told d f) able _ _
+        (λ h. continues-told d f n e (λ s. omega (arith, eqb-true (d .talker) addressed t))) (λ h. still))
+        (λ t. still)
+
+    requested-told : (ability state : ℕ) → Told d f (requested d f ability state)
+    unfolding requested
+    requested-told ability state = starts (has d ability) (talking d state)
+
+    sst-told : Told d f (sst d f)
+    unfolding sst
+    sst-told = starts (has d status) (talking (polls d) sendingStatus)
+
+  no-command : (k : ℕ) → outside 0x400 0x500 k ≡ true → kindAt f ≡ k → IsCommand f → ⊥
+  no-command k o e c = elsewhere 0x400 0x500 f k (c .first) (c .past) o e
+
+  -- whichever rule is selected
+  rules-told : Told d f (takes d f)
+  unfolding takes messages firstIn firstOf codesIn codesOf
+  rules-told =
+      selected (Told d f) (kindAt f) (rules d f) (sends d f) still
+      (λ e. passes _ (lad-left d _))
+      (λ e. passes _ (stays d _ refl))
+      (λ e. passes _ (tad-left d _))
+      (λ e. passes _ (zeroes d d idle))
+      (λ e. passes _ (zeroes d (listening d 0) idle))
+      (λ e. passes _ (aau-left d))
+      (λ e. requested-told (no-command _ refl e) _ _)
+      (λ e. sst-told (no-command _ refl e))
+      (λ e. requested-told (no-command _ refl e) _ _)
+      (λ e. requested-told (no-command _ refl e) _ _)
+      (λ e. passes _ (nrd-left d))
+      (λ e. aad-told e _)
+      (λ e. dataOrEnd-told d f (no-command _ refl e))
+      (λ e. dataOrEnd-told d f (no-command _ refl e))
+      (λ e. marks d f (no-command _ refl e) Nothing (λ s. refl))
+
+shows? : (f : ℕ) → Dec (ShowsService f)
+shows? f = go (decLt f 0x400) (decLt f 0x600) (decLt f 0x800)
+  where
+    go : Dec (f < 0x400) → Dec (f < 0x600) → Dec (f < 0x800) → Dec (ShowsService f)
+    go (yes h) b c = yes (inl (record { past = h }))
+    go (no l) (yes h) c = no (no-service f (omega arith) h)
+    go (no l) (no m) (yes h) = yes (inr (record { first = omega arith; past = h }))
+    go (no l) (no m) (no h) = no (⊎-elim (λ i. l (i .past)) (λ i. h (i .past)))
+
+pub told : (d : Device) (f : ℕ) → Told d f (takes d f)
+told d f = go (shows? f)
+  where
+    go : Dec (ShowsService f) → Told d f (takes d f)
+    go (yes (inl i)) = rw (data-frame d f (i .past)) (dataOrEnd-told d f (λ c. omega arith))
+    go (yes (inr i)) = rw (idy-frame d f (i .first) (i .past)) (marks d f (λ c. omega arith) Nothing (λ s. refl))
+    go (no q) = rules-told d f q

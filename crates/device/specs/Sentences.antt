@@ -1,0 +1,85 @@
+-- Sentences of 01, "What a device does with a frame", in its order: each holds for every device, sound or not, and
+-- every frame. Proved in proofs/Sentences.antt.
+use Prim.Native.Nat.{ℕ, _≤_, _<_, _/_, _%_}
+use mathlib.Core.Path.{_≡_}
+use mathlib.Core.Logic.{_⊎_}
+use Rattle.frame.specs.declared.Kind.{Kind}
+use Rattle.frame.specs.declared.Kind.the-variants.{Lad, Tad, Aad}
+use Rattle.frame.specs.Messages.{kindAt, numberOf}
+use Rattle.device.specs.Device.{idle, addressed, asking, noAddress}
+use Rattle.device.specs.Change.{talking}
+use Rattle.device.specs.Reply.{eto, ete, c1, sends, stops, continues}
+use Rattle.device.specs.Data.{dataBits}
+use Rattle.device.specs.Take.{takes}
+use Rattle.device.specs.Classes.{IsData, IsCommand, IsIdentify}
+use Rattle.device.specs.declared.Device.{Device}
+use Rattle.device.specs.declared.Handed.the-variants.{Nothing}
+
+-- the frame is of this kind
+abbrev pub Of : Kind → ℕ → Type 0
+Of k f = kindAt f ≡ numberOf k
+
+-- its control bit C1 is set
+abbrev pub HasC1 : ℕ → Type 0
+HasC1 f = f / c1 % 2 ≡ 1
+
+-- talker states 2-5
+abbrev pub Sending : Device → Type 0
+Sending d = addressed < d .talker
+
+-- Commands go on unchanged.
+abbrev pub CommandsGoOn : Type 0
+CommandsGoOn = (d : Device) (f : ℕ) → IsCommand f → takes d f .frame ≡ f
+
+-- Address 31 equals no LAD,
+abbrev pub NoLadIs31 : Type 0
+NoLadIs31 = (d : Device) (f : ℕ) → d .address ≡ noAddress → Of Lad f → takes d f .device ≡ d
+
+-- nor TAD: every TAD is another's, and the talker is idle.
+abbrev pub NoTadIs31 : Type 0
+NoTadIs31 = (d : Device) (f : ℕ) → d .address ≡ noAddress → Of Tad f → takes d f .device ≡ talking d idle
+
+-- A configured device leaves AAD alone.
+abbrev pub ConfiguredPassesAad : Type 0
+ConfiguredPassesAad = (d : Device) (f : ℕ) → (d .configured ≡ 0 → ⊥) → Of Aad f → takes d f ≡ sends d f
+
+-- In states 2-5 data or end is the device's own frame come back: not handed (nor is any other frame),
+abbrev pub OwnNotHanded : Type 0
+OwnNotHanded = (d : Device) (f : ℕ) → Sending d → takes d f .handed ≡ Nothing
+
+-- and not passed: ETE goes out, or ETO, or the reply's next byte.
+abbrev pub OwnNotPassed : Type 0
+OwnNotPassed =
+    (d : Device) (f : ℕ) → Sending d → IsData f →
+    (takes d f ≡ stops d ete) ⊎ ((takes d f ≡ stops d eto) ⊎ (takes d f ≡ continues d))
+
+-- IDY goes on in every state, its data bits unchanged, and leaves the device as it was.
+pub record IdyGoesOn : Type 0 where
+  pub still-idy : (d : Device) (f : ℕ) → IsIdentify f → IsIdentify (takes d f .frame)
+  pub same-bits : (d : Device) (f : ℕ) → IsIdentify f → dataBits (takes d f .frame) ≡ dataBits f
+  pub same-device : (d : Device) (f : ℕ) → IsIdentify f → takes d f .device ≡ d
+
+-- a DAB, END or IDY
+abbrev pub ShowsService : ℕ → Type 0
+ShowsService f = IsData f ⊎ IsIdentify f
+
+-- Every DAB, END or IDY sent has C1 set if service, after the frame, is 1.
+abbrev pub ServiceShown : Type 0
+ServiceShown =
+    (d : Device) (f : ℕ) → takes d f .device .service ≡ asking → ShowsService (takes d f .frame) →
+    HasC1 (takes d f .frame)
+
+-- C1 is never cleared on a frame passed: with C1 set data, end and IDY go on as they came.
+pub record C1Kept : Type 0 where
+  pub on-data : (d : Device) (f : ℕ) → d .talker ≤ addressed → IsData f → HasC1 f → takes d f .frame ≡ f
+  pub on-idy : (d : Device) (f : ℕ) → IsIdentify f → HasC1 f → takes d f .frame ≡ f
+
+-- Leaving states 2-5 zeroes bytes 8, 14, 15, 16.
+pub record Zeroed (d : Device) : Type 0 where
+  pub noted : d .noted ≡ 0
+  pub last : d .last ≡ 0
+  pub replied : d .replied ≡ 0
+
+abbrev pub LeavingZeroes : Type 0
+LeavingZeroes =
+    (d : Device) (f : ℕ) → Sending d → (takes d f .device .talker ≡ d .talker → ⊥) → Zeroed (takes d f .device)
