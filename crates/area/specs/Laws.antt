@@ -5,9 +5,8 @@ use mathlib.Core.Path.{_≡_}
 use mathlib.Core.List.{List, _∷_}
 use lib.ListN.{length}
 use Rattle.record.specs.Fits.{Bytes}
-use Rattle.area.specs.Link.{Frames}
-use Rattle.area.specs.Loop.{Loop, loopOf, areaOf, judgeOf, Sound-loop}
-use Rattle.area.specs.Lookup.{roomOf}
+use Rattle.area.specs.Loop.{Loop, loopOf, areaOf, judgeOf, link, Sound-loop}
+use Rattle.area.specs.Lookup.{roomOf, remove}
 use Rattle.area.specs.declared.Room.{Room}
 
 -- The area of the loop read from an area without a refusal is that area, byte for byte
@@ -30,6 +29,7 @@ AreaSound = (l : Loop) → Sound-loop l → judgeOf (areaOf l) ≡ 0
 abbrev pub AreaBytes : Type 0
 AreaBytes = (l : Loop) → Sound-loop l → Bytes (areaOf l)
 
--- Room freed in a link is used again: without its oldest frame a link has room
+-- Room freed in a link is used again: after its oldest frame is removed, the link has room behind the others
 abbrev pub RoomAgain : Type 0
-RoomAgain = (f : ℕ) (fs : List ℕ) → Frames (f ∷ fs) → roomOf fs ≡ Room.Behind (length fs)
+RoomAgain = (l : Loop) (j f : ℕ) (fs : List ℕ) → Sound-loop l → link l j ≡ f ∷ fs →
+    roomOf (link (remove j l) j) ≡ Room.Behind (length fs)

@@ -7,6 +7,7 @@ pub mod Bridge
 pub mod ByHops
 pub mod Drains
 pub mod Settled
+pub mod Spliced
 pub mod Second
 pub mod Rendered
 pub mod Third

@@ -28,8 +28,8 @@ use Rattle.demands.specs.Calls.{Byte, numbers, Action, put, hop, take, l
 use Rattle.demands.specs.Calls.{hopped, taken, drained, acts}
 use Rattle.demands.specs.Histories.{if, history, putBy, takenBy, handedBy, hopsBy, each, total}
 use Rattle.demands.specs.Histories.{areaLeft, framesPut, framesTaken, bytesHanded, hopsMade, toLoad}
-use Rattle.demands.specs.Histories.{toStatus, toWish, papers, calls, allCalls, lineOf, turnsOf, callBy}
-use Rattle.demands.specs.Histories.{turnBy, Drainless, turnsRead, callsAccepted, action}
+use Rattle.demands.specs.Histories.{toStatus, toWish, papers, calls, allCalls, lineOf, turnsOf, callSeen}
+use Rattle.demands.specs.Histories.{turnSeen, Drainless, turnsSeen, callsSeen, action}
 use Rattle.demands.proofs.Bridge.{toLoop}
 use Rattle.demands.proofs.Settled.{settle, onLoop, acts-on, fair, follows}
 
@@ -186,14 +186,14 @@ module _ (l : line.Loop papers) (good : Sound-loop (toLoop l)) where
 
     -- its turns, as its caller sees them
     pub turns-seen : Drainless cs → (i : ℕ) →
-        turnsRead (areaOf (toLoop l)) cs i ≡ told.turns ((line.run l (callsOf R cs)) .1) i
-    turns-seen d i = read-those (turnBy i) (λ e. told.turnBy i e) (tell cs d)
+        turnsSeen (areaOf (toLoop l)) cs i ≡ told.turns ((line.run l (callsOf R cs)) .1) i
+    turns-seen d i = read-those (turnSeen i) (λ e. told.turnBy i e) (tell cs d)
       where
-        tell : (ds : List Action) → Drainless ds → Every (Tells R (turnBy i) (λ e. told.turnBy i e)) ds
+        tell : (ds : List Action) → Drainless ds → Every (Tells R (turnSeen i) (λ e. told.turnBy i e)) ds
         tell [] u = tt
         tell (c ∷ ds) u = (λ m g. follows c m .reads .turned (u .0) i, tell ds (u .1))
 
-    pub calls-seen : (i : ℕ) → callsAccepted (areaOf (toLoop l)) cs i ≡
+    pub calls-seen : (i : ℕ) → callsSeen (areaOf (toLoop l)) cs i ≡
         told.callsIn (told.turns ((line.run l (callsOf R cs)) .1) i)
-    calls-seen i = read (callBy i) (λ e. told.callsIn (told.turnBy i e)) (λ m c. follows c m .reads .called i)
+    calls-seen i = read (callSeen i) (λ e. told.callsIn (told.turnBy i e)) (λ m c. follows c m .reads .called i)
         ∙ sym (calls-each ((line.run l (callsOf R cs)) .1) i)

@@ -1,38 +1,37 @@
--- A hop leaves the area of the loop that it leaves, and that area differs from the old one in one record and two links.
+-- Demand 2: a hop leaves the area of the loop that it leaves, which differs from the old one in one record and two
+-- links; and each other call leaves what its definition says.
 use Prim.Native.Nat.{ℕ, suc, _+_, _<_}
 use mathlib.Core.Path.{_≡_, sym, ap, _∙_}
 use mathlib.Core.List.{List, [], _∷_, _++_, tail}
 use native.Mathlib.Omega.{arith}
 use lib.ListN.{length, length-set}
-use lib.Seq.{drop-drop, getD-set-other}
+use lib.Seq.{getD-set-other}
 use borrow.Author.Tests.{lt-ltb}
 use Rattle.frame.proofs.Rows.{in-order}
-use Rattle.frame.proofs.Laws.{decoder-is-table, encode-decode, decode-encode}
+use Rattle.frame.specs.Messages.{frames, kindAt, firstOf, codesOf}
+use Rattle.frame.specs.Coding.{decodeOf, encodeOf}
+use Rattle.frame.proofs.Laws.{encode-decode, decode-encode}
 use Rattle.device.specs.Take.{takes}
 use Rattle.device.specs.declared.Device.{Device}
-use Rattle.record.specs.Record.{recordSize, recordOf}
-use Rattle.record.specs.Parts.{splice}
-use Rattle.record.proofs.Laws.{record-wide}
-use Rattle.area.specs.Sizes.{depth, linkSize, recordAt, linkAt}
+use Rattle.area.specs.Sizes.{depth, linkSize, linkAt}
 use Rattle.area.specs.Link.{linkOf}
 use Rattle.area.specs.Loop.{Loop, countIn, size, loopOf, areaOf, device, link}
 use Rattle.area.specs.Lookup.{oldestOf, setDevice, setLink}
-use Rattle.area.proofs.Parts.{splice as spliceOf}
 use Rattle.area.proofs.Links.{link-wide}
-use Rattle.area.proofs.Areas.{device-put, link-put}
-use Rattle.area.proofs.Laws.{area-back, loop-sound}
+use Rattle.area.proofs.Areas.{link-put}
+use Rattle.area.proofs.Laws.{loop-sound}
 use Rattle.calls.specs.Outcome.{done, After, after, callOf}
 use Rattle.calls.specs.Calls.{ofOldest, hopAnswer, sentBy, passed, passesOn, hopIn, hopOf}
 use Rattle.calls.specs.declared.HopAnswer.{HopAnswer}
-use Rattle.demands.specs.Calls.{hop, hopped, acts}
+use Rattle.coding.specs.Coding.{decodeAnswer, encodeAnswer}
+use Rattle.calls.specs.SetUp.{poweredOn}
+use Rattle.demands.specs.Calls.{Byte, numbers, hop, setUp, Answer, plain, hopped, decoded, encoded, acts, pil}
+use Rattle.demands.specs.Conditions.{devicesAt, lowest}
 use Rattle.demands.specs.Demands.{CanHop, ruled, recordTaken, linkLess, hopLeaves, Demand2}
 use Rattle.demands.proofs.Tests.{size-is}
+use Rattle.demands.proofs.First.{demand-1, sets-up}
 use Rattle.demands.proofs.ByHops.{drain-hops}
-
--- new bytes of a width, from a place on
-spliced : (at w : ℕ) (new a : List ℕ) → length new ≡ w → splice at new a ≡ spliceOf at w new a
-unfolding splice
-spliced at w new a e = rw (e, drop-drop w at a)
+use Rattle.demands.proofs.Spliced.{spliced, device-area, put-leaves, take-leaves, local-call-leaves}
 
 module _ (i f : ℕ) (fs a : List ℕ) (can : CanHop i f fs a) where
   l : Loop
@@ -50,7 +49,7 @@ module _ (i f : ℕ) (fs a : List ℕ) (can : CanHop i f fs a) where
   hop-is : hopOf a i ≡ after (hopAnswer (sentBy i f (loopOf a) .frame) (sentBy i f (loopOf a) .handed))
       (areaOf (passed i f (loopOf a)))
   unfolding callOf
-  hop-is = rw (can .judged, hop-in)
+  hop-is = rw (can .judged .sound, hop-in)
 
   -- its area, one change after the other
   n : ℕ
@@ -66,18 +65,14 @@ module _ (i f : ℕ) (fs a : List ℕ) (can : CanHop i f fs a) where
   l₂ = setLink i (tail (link (loopOf a) i)) (setDevice i (takes (device (loopOf a) i) f .device) (loopOf a))
 
   links-long : length (loopOf a .links) ≡ suc (size (loopOf a))
-  links-long = loop-sound a (can .bytes) (can .judged) .ends
+  links-long = loop-sound a (can .judged .bytes) (can .judged .sound) .ends
 
   in-range : i < size (loopOf a)
   in-range = rw (size-is a) (can .there)
 
   area-1 : areaOf l₁ ≡ recordTaken i f a
   unfolding l₁
-  area-1 =
-      let x = takes (device (loopOf a) i) f .device in
-      sym (device-put (loopOf a) i x in-range)
-      ∙ ap (λ (b : List ℕ). spliceOf (recordAt i) recordSize (recordOf x) b) (area-back a (can .bytes) (can .judged))
-      ∙ sym (spliced (recordAt i) recordSize (recordOf x) a (record-wide x))
+  area-1 = device-area a (can .judged) i (takes (device (loopOf a) i) f .device) (can .there)
 
   area-2 : areaOf l₂ ≡ linkLess i f a
   unfolding l₁ l₂
@@ -105,18 +100,46 @@ module _ (i f : ℕ) (fs a : List ℕ) (can : CanHop i f fs a) where
       ∙ rw (same, area-2) (sym
       (spliced (linkAt (countIn a) (suc i)) linkSize (linkOf q) (linkLess i f a) (link-wide q))))
 
-  pub hop-leaves : acts (hop i) a .area ≡ hopLeaves i f a
+  hop-leaves : acts (hop i) a .area ≡ hopLeaves i f a
   hop-leaves = ap (λ (o : After HopAnswer). o .area) hop-is ∙ area-3
 
-  pub hop-answers : acts (hop i) a .answer ≡ hopped (hopAnswer (ruled i f a .frame) (ruled i f a .handed))
+  hop-answers : acts (hop i) a .answer ≡ hopped (hopAnswer (ruled i f a .frame) (ruled i f a .handed))
   hop-answers = ap (λ (o : After HopAnswer). hopped (o .answer)) hop-is
+
+-- ---- set up, decoder and encoder
+
+set-up-leaves : (items : List Byte) (a : List ℕ) → lowest (setUp items) a ≡ 0 →
+    pil (setUp items) a ≡ after (plain 0) (areaOf (poweredOn (devicesAt (length a)) (numbers items)))
+set-up-leaves items a z =
+    ap (λ (r : Answer). after r (pil (setUp items) a .area))
+    (ap plain (demand-1 .by-table (setUp items) a ∙ z))
+    ∙ ap (λ (x : List ℕ). after (plain 0) x) (sets-up a items z .leaves)
+
+decode-answers : (f : ℕ) → f < frames → decoded (decodeAnswer f) ≡ decoded (record { refusal = 0; kind = kindAt f })
+unfolding decodeOf
+decode-answers f h = rw (lt-ltb f frames h)
+
+encode-answers : (k o : ℕ) → o < codesOf k →
+    encoded (encodeAnswer k o) ≡ encoded (record { frame = firstOf k + o; refusal = 0 })
+unfolding encodeOf
+encode-answers k o h = rw (lt-ltb o (codesOf k) h)
 
 pub demand-2 : Demand2
 demand-2 =
     record {
-      table = in-order;
-      decoder = decoder-is-table;
+      obeyed =
+          record {
+            leaves = hop-leaves;
+            answers = hop-answers;
+            drains = drain-hops;
+            puts = λ f a j h r. put-leaves a j f h r;
+            takes-out = λ f fs a j e. take-leaves a j f fs e;
+            local-calls = λ c i a j h z. local-call-leaves a j c i h z;
+            sets-up = set-up-leaves;
+            decodes = λ f a h. decode-answers f h;
+            encodes = λ k o a h. encode-answers k o h;
+          };
+      messages-in-order = in-order;
       encode-decode = encode-decode;
       decode-encode = decode-encode;
-      hops = record { leaves = hop-leaves; answers = hop-answers; drains = drain-hops };
     }

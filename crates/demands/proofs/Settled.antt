@@ -29,7 +29,7 @@ use Rattle.order.proofs.Turns.{here, elsewhere}
 use Rattle.demands.specs.Calls.{numbers, Action, put, hop, take, load, status, wish, drain, Answer, plain, hopped}
 use Rattle.demands.specs.Calls.{taken, drained, acts}
 use Rattle.demands.specs.Histories.{Got, got, if, putBy, takenBy, handedBy, hopsBy, refusedBy, Local, toLoad}
-use Rattle.demands.specs.Histories.{toStatus, toWish, papers, calls, hopBy, callBy, turnBy, isDrain}
+use Rattle.demands.specs.Histories.{toStatus, toWish, papers, calls, hopSeen, callSeen, turnSeen, isDrain}
 use Rattle.demands.proofs.Bridge.{toLoop, Alike, both-refuse, both-do, handedIn, put-alike, take-alike}
 use Rattle.demands.proofs.Bridge.{hop-alike, local-alike}
 use Rattle.demands.proofs.Drains.{drainAnswer, drained-alike}
@@ -92,8 +92,8 @@ pub record Reads (c : Action) (r : Answer) (es : List (line.Event papers)) : Typ
   pub puts : putBy c r ≡ told.puts es
   pub taken : takenBy c r ≡ told.taken es
   pub handed : (i : ℕ) → handedBy i c r ≡ told.handed es i
-  pub called : (i : ℕ) → callBy i c r ≡ told.each (λ e. told.callsIn (told.turnBy i e)) es
-  pub turned : isDrain c ≡ false → (i : ℕ) → turnBy i c r ≡ told.turns es i
+  pub called : (i : ℕ) → callSeen i c r ≡ told.each (λ e. told.callsIn (told.turnBy i e)) es
+  pub turned : isDrain c ≡ false → (i : ℕ) → turnSeen i c r ≡ told.turns es i
   pub hops : hopsBy c r ≡ told.hopsMade es
   pub refused : cond (fair c) (refusedBy c r) 0 ≡ told.refusals es
 
@@ -171,8 +171,8 @@ put-follows f l o (some q) h (both-do r m x b e t) =
 
 -- a local call, whichever it is
 module _ (c : Action) (i : ℕ) (x : Local) (fine : fair c ≡ true) (quiet : (k : ℕ) → putBy c (plain k) ≡ [])
-    (calls : (j k : ℕ) → callBy j c (plain k) ≡ if (eqb j i && eqb k 0) x)
-    (still : (j k : ℕ) → hopBy j c (plain k) ≡ []) where
+    (calls : (j k : ℕ) → callSeen j c (plain k) ≡ if (eqb j i && eqb k 0) x)
+    (still : (j k : ℕ) → hopSeen j c (plain k) ≡ []) where
   local-follows : (l : line.Loop papers) (o : Outcome ℕ) (p : Option (line.Loop papers)) →
       Alike ℕ (Unit {0}) (λ r b. r ≡ 0) o (Option·map (λ y. (y, tt)) (Option·map (λ l′. flat.flat l′) p)) →
       Follows c l (settle plain refusal (toLoop l) o)

@@ -1,11 +1,11 @@
 -- What the demands shut out: each by a small loop, on which a call's outcome is computed.
 use Prim.Native.Nat.{ℕ, zero, suc, _<_}
 use mathlib.Core.Path.{_≡_, refl, sym, ap, _∙_}
-use mathlib.Core.Bool.{Bool, true, cond}
+use mathlib.Core.Bool.{true}
 use mathlib.Core.Option.{Option, none, some}
 use mathlib.Core.List.{List, [], _∷_}
 use native.Mathlib.Omega.{arith}
-use lib.Dec.{eqb, ltb}
+use lib.Dec.{ltb}
 use borrow.Author.Tests.{ltb-true}
 use Rattle.frame.specs.Messages.{messages, kindAt, lookup, within, firstIn, firstOf}
 use Rattle.device.specs.Choose.{choose}
@@ -25,16 +25,15 @@ use Rattle.area.specs.Link.{framesOf, linkOf, soundSlot, soundLink}
 use Rattle.area.specs.Loop.{countIn, loopOf, areaOf, shaped, sound, judgeOf, device, link}
 use Rattle.calls.specs.Outcome.{After, callOf}
 use Rattle.calls.specs.Calls.{hopAnswer, hopIn}
-use Rattle.demands.specs.Calls.{Action, put, hop, drain, onArea, Answer, hopped, refusalIn}
+use Rattle.demands.specs.Calls.{Action, put, hop, drain, Call, onArea, Answer, hopped}
 use Rattle.demands.specs.Histories.{Got, handedBy, hopsBy}
-use Rattle.demands.specs.Drains.{stopsBefore, can, highest, afterHop, byHops}
+use Rattle.demands.specs.Drains.{highestOf, stopsBefore, onceHopped, byHops}
 use Rattle.demands.specs.Conditions.{lowest}
-use Rattle.demands.specs.Demands.{CanHop, ruled, hopLeaves, Obeys}
-use Rattle.demands.specs.Teeth.{RefuserShutOut, LowestGiven, frameIn, PasserShutOut, WorkerShutOut}
-use Rattle.demands.specs.Teeth.{InventedCountShutOut}
-use Rattle.demands.proofs.Tests.{hop-done}
+use Rattle.demands.specs.Demands.{Judged, CanHop, ruled, hopLeaves, Obeys}
+use Rattle.demands.specs.Teeth.{RefuserShutOut, LowestGiven, frameIn, kindIn, OneKindShutOut, PasserShutOut}
+use Rattle.demands.specs.Teeth.{WorkerShutOut, InventedCountShutOut}
 
--- ---- two loops: fresh devices that can be auto-addressed, and AAD 0 before the first
+-- ---- three loops: fresh devices that can be auto-addressed, and AAD 0 before the first, or nothing
 
 abbrev fresh : Device
 fresh = powerOn (32 ∷ 31 ∷ [])
@@ -44,6 +43,9 @@ one = areaOf (record { devices = fresh ∷ []; links = (0x580 ∷ []) ∷ [] ∷
 
 abbrev two : List ℕ
 two = areaOf (record { devices = fresh ∷ fresh ∷ []; links = (0x580 ∷ []) ∷ [] ∷ [] ∷ [] })
+
+abbrev still : List ℕ
+still = areaOf (record { devices = fresh ∷ []; links = [] ∷ [] ∷ [] })
 
 are-bytes : (b : List ℕ) → all (λ x. ltb x 256) b ≡ true → Bytes b
 unfolding all
@@ -55,13 +57,28 @@ one-can : CanHop 0 0x580 [] one
 unfolding powerOn bytesFrom deviceOf recordOf zeros soundDevice soundRecord parts join all framesOf linkOf soundSlot
     soundLink loopOf areaOf shaped sound judgeOf
 one-can =
-    record { bytes = are-bytes one refl; judged = refl; there = omega arith; oldest = refl; room = omega arith }
+    record {
+      judged = record { bytes = are-bytes one refl; sound = refl };
+      there = omega arith;
+      oldest = refl;
+      room = omega arith;
+    }
 
 two-can : CanHop 0 0x580 [] two
 unfolding powerOn bytesFrom deviceOf recordOf zeros soundDevice soundRecord parts join all framesOf linkOf soundSlot
     soundLink loopOf areaOf shaped sound judgeOf
 two-can =
-    record { bytes = are-bytes two refl; judged = refl; there = omega arith; oldest = refl; room = omega arith }
+    record {
+      judged = record { bytes = are-bytes two refl; sound = refl };
+      there = omega arith;
+      oldest = refl;
+      room = omega arith;
+    }
+
+still-judged : Judged still
+unfolding powerOn bytesFrom deviceOf recordOf zeros soundDevice soundRecord parts join all framesOf linkOf soundSlot
+    soundLink loopOf areaOf shaped sound judgeOf
+still-judged = record { bytes = are-bytes still refl; sound = refl }
 
 -- ---- demand 1
 
@@ -114,20 +131,26 @@ unfolding messages kindAt lookup within firstIn firstOf choose powerOn bytesFrom
     linkOf framesOf loopOf areaOf splice
 works = refl
 
-module _ (model : Action → List ℕ → After Answer) (o : Obeys model) where
-  answers-on : frameIn (model (hop 0) one .answer) ≡ 0x581
+-- AAD can hop, and where nothing is under way nothing can
+who : (highestOf one (countIn one) ≡ some 0) × (highestOf still (countIn still) ≡ none)
+unfolding powerOn bytesFrom deviceOf recordOf zeros soundDevice soundRecord parts join all framesOf linkOf soundSlot
+    soundLink loopOf areaOf shaped sound judgeOf
+who = (refl, refl)
+
+module _ (model : Call → List ℕ → After Answer) (o : Obeys model) where
+  answers-on : frameIn (model (onArea (hop 0)) one .answer) ≡ 0x581
   answers-on = ap frameIn (o .answers 0 0x580 [] one one-can)
       ∙ answered (ruled 0 0x580 one .frame) (ruled 0 0x580 one .handed) ∙ sent-on
 
-  leaves-on : link (loopOf (model (hop 0) one .area)) 1 ≡ 0x581 ∷ []
+  leaves-on : link (loopOf (model (onArea (hop 0)) one .area)) 1 ≡ 0x581 ∷ []
   leaves-on = ap (λ (x : List ℕ). link (loopOf x) 1) (o .leaves 0 0x580 [] one one-can) ∙ left-on .1
 
-  leaves-waiting : device (loopOf (model (hop 0) two .area)) 1 .configured ≡ 0
+  leaves-waiting : device (loopOf (model (onArea (hop 0)) two .area)) 1 .configured ≡ 0
   leaves-waiting = ap (λ (x : List ℕ). device (loopOf x) 1 .configured) (o .leaves 0 0x580 [] two two-can) ∙ waits
 
-  -- a drain with no budget makes no hop, whatever can hop, and one with a budget of one makes the hop of AAD
+  -- a drain with no budget left makes no hop more, whatever can hop
   spent : (c : Action) (h : ℕ) (a : List ℕ) → hopsBy c (byHops model 0 h a .answer) ≡ h
-  spent c h a = go (highest model a (countIn a))
+  spent c h a = go (highestOf a (countIn a))
     where
       go : (p : Option ℕ) →
           let x : After Answer = elim p [ none ↦ stopsBefore 0 h a | some i ↦ stopsBefore 1 h a ] in
@@ -135,31 +158,43 @@ module _ (model : Action → List ℕ → After Answer) (o : Obeys model) where
       go none = refl
       go (some i) = refl
 
-  can-one : can model one 0 ≡ true
-  can-one = ap (λ (r : Answer). eqb (refusalIn r) 0) (o .answers 0 0x580 [] one one-can)
-      ∙ rw (hop-done (ruled 0 0x580 one .frame) (ruled 0 0x580 one .handed))
-
-  one-hops : highest model one (countIn one) ≡ some 0
-  unfolding areaOf
-  one-hops = ap (λ (t : Bool). cond t (some 0) none) can-one
-
-  turn : Option ℕ → After Answer
-  turn p =
+  -- a drain's first turn, with a budget of one
+  turn : List ℕ → Option ℕ → After Answer
+  turn a p =
       elim p [
-        | none ↦ stopsBefore 0 0 one
-        | some i ↦ afterHop model i 1 (byHops model 0 1) (handedBy i (hop i) (model (hop i) one .answer))
-            (model (hop i) one .area)
+        | none ↦ stopsBefore 0 0 a
+        | some i ↦ onceHopped i 1 (byHops model 0 1) (handedBy i (hop i) (model (onArea (hop i)) a .answer))
+            (model (onArea (hop i)) a .area)
       ]
 
-  counts : hopsBy (drain 1) (byHops model 1 0 one .answer) ≡ 1
+  counts-one : hopsBy (drain 1) (byHops model 1 0 one .answer) ≡ 1
   unfolding turn
-  counts = ap (λ (p : Option ℕ). hopsBy (drain 1) (turn p .answer)) one-hops
-      ∙ go (handedBy 0 (hop 0) (model (hop 0) one .answer))
+  counts-one = ap (λ (p : Option ℕ). hopsBy (drain 1) (turn one p .answer)) (who .0)
+      ∙ go (handedBy 0 (hop 0) (model (onArea (hop 0)) one .answer))
     where
       go : (gs : List Got) → hopsBy (drain 1)
-          (afterHop model 0 1 (byHops model 0 1) gs (model (hop 0) one .area) .answer) ≡ 1
-      go [] = spent (drain 1) 1 (model (hop 0) one .area)
+          (onceHopped 0 1 (byHops model 0 1) gs (model (onArea (hop 0)) one .area) .answer) ≡ 1
+      go [] = spent (drain 1) 1 (model (onArea (hop 0)) one .area)
       go (g ∷ gs) = refl
+
+  counts-none : hopsBy (drain 1) (byHops model 1 0 still .answer) ≡ 0
+  unfolding turn
+  counts-none = ap (λ (p : Option ℕ). hopsBy (drain 1) (turn still p .answer)) (who .1)
+
+two-kinds : (kindAt 0 ≡ 1) × (kindAt 0x200 ≡ 2)
+unfolding messages kindAt lookup within
+two-kinds = (refl, refl)
+
+pub one-kind-shut-out : OneKindShutOut
+one-kind-shut-out k model same o =
+    omega (
+      arith,
+      same 0 [] (omega arith),
+      ap kindIn (o .decodes 0 [] (omega arith)),
+      same 0x200 [] (omega arith),
+      ap kindIn (o .decodes 0x200 [] (omega arith)),
+      two-kinds,
+    )
 
 pub passer-shut-out : PasserShutOut
 passer-shut-out =
@@ -178,13 +213,13 @@ worker-shut-out model does o =
     omega arith
 
 pub invented-count-shut-out : InventedCountShutOut
-invented-count-shut-out n model says o =
+invented-count-shut-out count model says o =
     omega (
       arith,
-      says 0 one,
-      ap (λ (x : After Answer). hopsBy (drain 0) (x .answer)) (o .drains 0 one (one-can .bytes) (one-can .judged)),
-      spent model o (drain 0) 0 one,
       says 1 one,
-      ap (λ (x : After Answer). hopsBy (drain 1) (x .answer)) (o .drains 1 one (one-can .bytes) (one-can .judged)),
-      counts model o,
+      ap (λ (x : After Answer). hopsBy (drain 1) (x .answer)) (o .drains 1 one (one-can .judged)),
+      counts-one model o,
+      says 1 still,
+      ap (λ (x : After Answer). hopsBy (drain 1) (x .answer)) (o .drains 1 still still-judged),
+      counts-none model o,
     )

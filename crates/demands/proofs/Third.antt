@@ -1,6 +1,5 @@
--- Demand 3: the area that a set-up leaves holds an idle line, a history on it is one of the line, and the line's
--- order does not matter; the right-round history of the line can be made by calls on the area, and all is read off
--- its answers too.
+-- Demand 3: a set-up leaves an idle line, a history on its area is one of the line, whose order does not matter; and
+-- the line's right-round history can be made by calls on the area.
 use Prim.Native.Nat.{ℕ, zero, suc, _*_, _<_}
 use mathlib.Core.Path.{_≡_, refl, sym, ap, _∙_}
 use mathlib.Core.Bool.{true, cond}
@@ -182,7 +181,7 @@ module _ (ss : List Device) (good : Sound-loop (toLoop (line.idle ss))) (cs : Li
         same-taken = alike (λ c. framesTaken x c) (λ e. told.taken e) (taken-are start good) ((same-as .0) .same-taken);
         same-handed = λ i. alike (λ c. bytesHanded x c i) (λ e. told.handed e i) (λ c. handed-are start good c i)
             ((same-as .0) .same-handed i);
-        hops = hops-are start good cs ∙ same-as .1 ∙ rw (← puts-are start good cs, ← devices-are);
+        hops-made = hops-are start good cs ∙ same-as .1 ∙ rw (← puts-are start good cs, ← devices-are);
       }
 
 -- ---- sums
@@ -228,10 +227,10 @@ turns-are-seen a items cs set = rw (fresh-area a items set)
     seen : (l : line.Loop papers) → Sound-loop (toLoop l) → Turns (areaOf (toLoop l)) cs
     seen l good =
         record {
-          read = λ d i. turns-are l good cs i ∙ sym (turns-seen l good cs d i);
-          calls = λ i. ap (λ (t : List (told.Turn papers)). told.callsIn t) (turns-are l good cs i)
+          all-seen = λ d i. turns-are l good cs i ∙ sym (turns-seen l good cs d i);
+          calls-seen = λ i. ap (λ (t : List (told.Turn papers)). told.callsIn t) (turns-are l good cs i)
               ∙ sym (calls-seen l good cs i);
-          hops = rw (count-is (toLoop l) good ∙ same-flat papers .same-devices l)
+          hops-add-up = rw (count-is (toLoop l) good ∙ same-flat papers .same-devices l)
               (sum-same (line.devices l) (λ i. ap (λ (t : List (told.Turn papers)). told.hopsIn t)
               (turns-are l good cs i))
               ∙ turns-add-up papers l _ (callsOf R cs) _ refl ∙ sym (hops-are l good cs));

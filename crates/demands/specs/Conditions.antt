@@ -143,10 +143,10 @@ table c a =
     []
 
 -- the first number, from n on, whose condition holds; 0 if none does
-abbrev pub firstOf : ℕ → List Bool → ℕ
-firstOf n [] = 0
-firstOf n (holds ∷ rest) = cond holds n (firstOf (suc n) rest)
+abbrev pub firstHolding : ℕ → List Bool → ℕ
+firstHolding n [] = 0
+firstHolding n (holds ∷ rest) = cond holds n (firstHolding (suc n) rest)
 
 -- the lowest number whose condition holds
 abbrev pub lowest : Call → List ℕ → ℕ
-lowest c a = firstOf 1 (table c a)
+lowest c a = firstHolding 1 (table c a)

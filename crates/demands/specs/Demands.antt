@@ -1,11 +1,14 @@
 -- The three demands on the model, over the very definitions that the contracts of the exported functions cite.
--- Read with it: Calls, Conditions, Drains, Histories, Teeth; frame's Coding and Laws; device's Take; record's Record,
--- Parts, Fits; area's Sizes, Link, Loop; calls' Outcome and Calls; order's Line, History and RightRound.
-use Prim.Native.Nat.{ℕ, suc, _*_, _<_}
+-- It leans on Calls, Conditions, Drains, Histories (Teeth says what it shuts out); frame's Messages, Coding, Laws;
+-- coding's Coding; device's Sent, and Take with the rules that it names; local's Local; record's Record, Parts, Sound,
+-- Fits; area's Sizes, Parts, Link, Loop, Lookup; calls' Outcome, Calls, Drain, SetUp; order's Line, Flat, History,
+-- RightRound, Through, which have names of their own.
+use Prim.Native.Nat.{ℕ, suc, _+_, _*_, _<_}
 use mathlib.Core.Path.{_≡_}
 use mathlib.Core.List.{List, [], _∷_, _++_, tail}
 use lib.ListN.{length}
-use Rattle.frame.specs.Laws.{TableInOrder, DecoderIsTable, EncodeDecode, DecodeEncode}
+use Rattle.frame.specs.Messages.{frames, kindAt, firstOf, codesOf}
+use Rattle.frame.specs.Laws.{TableInOrder, EncodeDecode, DecodeEncode}
 use Rattle.device.specs.Take.{takes}
 use Rattle.device.specs.Sent.{Sent}
 use Rattle.record.specs.Record.{recordOf}
@@ -13,15 +16,17 @@ use Rattle.record.specs.Parts.{splice}
 use Rattle.record.specs.Fits.{Bytes}
 use Rattle.area.specs.Sizes.{depth, recordAt, linkAt}
 use Rattle.area.specs.Link.{linkOf}
-use Rattle.area.specs.Loop.{countIn, loopOf, judgeOf, device, link}
-use Rattle.calls.specs.Outcome.{After}
+use Rattle.area.specs.Loop.{countIn, loopOf, areaOf, judgeOf, device, link}
+use Rattle.calls.specs.Outcome.{After, after}
 use Rattle.calls.specs.Calls.{hopAnswer}
+use Rattle.calls.specs.SetUp.{poweredOn}
 use Rattle.order.specs.History.{callsIn, hopsIn, sumOver}
-use Rattle.demands.specs.Calls.{Byte, Action, hop, drain, Call, setUp, Answer, hopped, acts, pil, refusalIn, bare}
-use Rattle.demands.specs.Conditions.{lowest}
+use Rattle.demands.specs.Calls.{Byte, numbers, Action, put, hop, take, drain, Call, onArea, setUp, decode, encode}
+use Rattle.demands.specs.Calls.{Answer, plain, hopped, taken, decoded, encoded, pil, refusalIn, bare}
+use Rattle.demands.specs.Conditions.{devicesAt, lowest}
 use Rattle.demands.specs.Drains.{byHops}
-use Rattle.demands.specs.Histories.{areaLeft, framesPut, framesTaken, bytesHanded, hopsMade, callsRefused}
-use Rattle.demands.specs.Histories.{turnsOf, Drainless, turnsRead, callsAccepted, inTurn}
+use Rattle.demands.specs.Histories.{areaLeft, framesPut, framesTaken, bytesHanded, hopsMade, callsRefused, Local}
+use Rattle.demands.specs.Histories.{calledBy, localCall, turnsOf, Drainless, turnsSeen, callsSeen, inTurn}
 
 -- ---- Demand 1: every call is refused exactly by the table
 
@@ -36,12 +41,16 @@ pub record Refuses (model : Call → List ℕ → After Answer) : Type 0 where
 abbrev pub Demand1 : Type 0
 Demand1 = Refuses pil
 
--- ---- Demand 2: every device does what the papers say
+-- ---- Demand 2: every call does, and every device, what the papers say
 
--- Device i of an area without a refusal can hop: f is its oldest frame, and the next link has room.
-pub record CanHop (i f : ℕ) (fs a : List ℕ) : Type 0 where
+-- a: any bytes without a refusal
+pub record Judged (a : List ℕ) : Type 0 where
   pub bytes : Bytes a
-  pub judged : judgeOf a ≡ 0
+  pub sound : judgeOf a ≡ 0
+
+-- Device i of such an area can hop: f is its oldest frame, and the next link has room.
+pub record CanHop (i f : ℕ) (fs a : List ℕ) : Type 0 where
+  pub judged : Judged a
   pub there : i < countIn a
   pub oldest : link (loopOf a) i ≡ f ∷ fs
   pub room : length (link (loopOf a) (suc i)) < depth
@@ -63,26 +72,44 @@ module _ (i f : ℕ) (a : List ℕ) where
   abbrev pub hopLeaves : List ℕ
   hopLeaves = splice (linkAt (countIn a) (suc i)) (linkOf (link (loopOf a) (suc i) ++ (ruled .frame ∷ []))) linkLess
 
--- A model of the calls on an area:
-pub record Obeys (model : Action → List ℕ → After Answer) : Type 0 where
+-- A model of the calls:
+pub record Obeys (model : Call → List ℕ → After Answer) : Type 0 where
   -- a hop leaves that area,
-  pub leaves : (i f : ℕ) (fs a : List ℕ) → CanHop i f fs a → model (hop i) a .area ≡ hopLeaves i f a
+  pub leaves : (i f : ℕ) (fs a : List ℕ) → CanHop i f fs a → model (onArea (hop i)) a .area ≡ hopLeaves i f a
   -- and answers the frame sent and the byte handed that the rules give;
   pub answers : (i f : ℕ) (fs a : List ℕ) → CanHop i f fs a →
-      model (hop i) a .answer ≡ hopped (hopAnswer (ruled i f a .frame) (ruled i f a .handed))
-  -- a drain answers and leaves what its hops come to, the highest-numbered device's first.
-  pub drains : (budget : ℕ) (a : List ℕ) → Bytes a → judgeOf a ≡ 0 →
-      model (drain budget) a ≡ byHops model budget 0 a
+      model (onArea (hop i)) a .answer ≡ hopped (hopAnswer (ruled i f a .frame) (ruled i f a .handed))
+  -- a drain answers and leaves what its hops come to, the highest-numbered device's first;
+  pub drains : (budget : ℕ) (a : List ℕ) → Judged a → model (onArea (drain budget)) a ≡ byHops model budget 0 a
+  -- a put makes the frame link 0's newest, and no other byte changes;
+  pub puts : (f : ℕ) (a : List ℕ) → Judged a → f < frames → length (link (loopOf a) 0) < depth →
+      model (onArea (put f)) a ≡ after (plain 0)
+      (splice (linkAt (countIn a) 0) (linkOf (link (loopOf a) 0 ++ (f ∷ []))) a)
+  -- a take answers the tail's oldest frame, which the tail loses, and no other byte changes;
+  pub takes-out : (f : ℕ) (fs a : List ℕ) → Judged a → link (loopOf a) (countIn a) ≡ f ∷ fs →
+      model (onArea take) a ≡ after (taken (record { frame = f; refusal = 0 }))
+      (splice (linkAt (countIn a) (countIn a)) (linkOf fs) a)
+  -- a local call that the device accepts makes its record that of the device after it, and no other byte changes;
+  pub local-calls : (c : Local) (i : ℕ) (a : List ℕ) → Judged a → i < countIn a →
+      calledBy c (device (loopOf a) i) .refusal ≡ 0 →
+      model (onArea (localCall i c)) a ≡ after (plain 0)
+      (splice (recordAt i) (recordOf (calledBy c (device (loopOf a) i) .device)) a)
+  -- a set-up that is not refused leaves power-on devices and empty links;
+  pub sets-up : (items : List Byte) (a : List ℕ) → lowest (setUp items) a ≡ 0 →
+      model (setUp items) a ≡ after (plain 0) (areaOf (poweredOn (devicesAt (length a)) (numbers items)))
+  -- the decoder answers the message table's kind, and the encoder the kind's first code and the offset.
+  pub decodes : (f : ℕ) (a : List ℕ) → f < frames →
+      model (decode f) a .answer ≡ decoded (record { refusal = 0; kind = kindAt f })
+  pub encodes : (k o : ℕ) (a : List ℕ) → o < codesOf k →
+      model (encode k o) a .answer ≡ encoded (record { frame = firstOf k + o; refusal = 0 })
 
 -- That the published table has the decoder's kind at every frame is the contract of `published::kind`.
 pub record Demand2 : Type 0 where
-  -- the message table is in order, the decoder's kinds are the table's, and decoder and encoder undo each other;
-  pub table : TableInOrder
-  pub decoder : DecoderIsTable
+  pub obeyed : Obeys pil
+  -- the message table is in order, and decoder and encoder undo each other
+  pub messages-in-order : TableInOrder
   pub encode-decode : EncodeDecode
   pub decode-encode : DecodeEncode
-  -- each hop is the device's rules, byte for byte, and each drain its hops
-  pub hops : Obeys acts
 
 -- ---- Demand 3: the order of hops does not matter
 
@@ -90,10 +117,8 @@ pub record Demand2 : Type 0 where
 abbrev pub AllEmpty : List ℕ → Type 0
 AllEmpty a = (j : ℕ) → link (loopOf a) j ≡ []
 
--- A history of calls on an area comes to the same as sending each frame right round before the next, with the same
--- frames and the same turns. A device's turns are its own hops and the local calls that it accepted, in order: so "the
--- same turns" says that its accepted local calls stand at the same places among its own hops, whatever other devices
--- did in between.
+-- A history comes to the same as each frame right round before the next, with the same frames and the same turns: a
+-- device's own hops and the local calls that it accepted, in order, whatever other devices did in between.
 pub record InAnyOrder (a : List ℕ) (cs : List Action) : Type 0 where
   -- right round no call is refused; the frames put and the turns are those of the history,
   pub accepted : callsRefused a (inTurn a cs) ≡ 0
@@ -105,7 +130,7 @@ pub record InAnyOrder (a : List ℕ) (cs : List Action) : Type 0 where
   pub same-taken : framesTaken a (inTurn a cs) ≡ framesTaken a cs
   pub same-handed : (i : ℕ) → bytesHanded a (inTurn a cs) i ≡ bytesHanded a cs i
   -- Hops made are frames times devices.
-  pub hops : hopsMade a cs ≡ length (framesPut a cs) * countIn a
+  pub hops-made : hopsMade a cs ≡ length (framesPut a cs) * countIn a
 
 -- From a freshly set-up loop: a set-up that is not refused, then calls in any order, some perhaps refused, that leave
 -- all links empty
@@ -116,11 +141,11 @@ Demand3 = (a : List ℕ) (items : List Byte) (cs : List Action) → lowest (setU
 -- The turns of a history are what its caller sees:
 pub record Turns (a : List ℕ) (cs : List Action) : Type 0 where
   -- without drains, the accepted hops and local calls that name the device;
-  pub read : Drainless cs → (i : ℕ) → turnsOf a cs i ≡ turnsRead a cs i
+  pub all-seen : Drainless cs → (i : ℕ) → turnsOf a cs i ≡ turnsSeen a cs i
   -- in any history, the local calls in them are those answered 0, in order,
-  pub calls : (i : ℕ) → callsIn (turnsOf a cs i) ≡ callsAccepted a cs i
+  pub calls-seen : (i : ℕ) → callsIn (turnsOf a cs i) ≡ callsSeen a cs i
   -- and the hops in them, of all devices together, are the hops made.
-  pub hops : sumOver (countIn a) (λ i. hopsIn (turnsOf a cs i)) ≡ hopsMade a cs
+  pub hops-add-up : sumOver (countIn a) (λ i. hopsIn (turnsOf a cs i)) ≡ hopsMade a cs
 
 abbrev pub TurnsAreSeen : Type 0
 TurnsAreSeen = (a : List ℕ) (items : List Byte) (cs : List Action) → lowest (setUp items) a ≡ 0 →

@@ -1,5 +1,5 @@
--- Histories of calls on an area, what a caller in C reads off their answers, and the history that sends each frame
--- right round.
+-- Histories of calls on an area: what a caller in C reads off their answers, the turns of devices, and the history that
+-- sends each frame right round.
 use Prim.Native.Nat.{ℕ, _+_}
 use mathlib.Core.Path.{_≡_}
 use mathlib.Core.Bool.{Bool, true, false, cond, _&&_}
@@ -189,28 +189,28 @@ turnsOf a cs i = turns ((line.run (lineOf a) (allCalls cs)) .1) i
 -- ---- and what a caller sees of them
 
 -- the hop of device i that a call and its answer show
-abbrev pub hopBy : ℕ → Action → Answer → List (Turn papers)
-hopBy i (put f) r = []
-hopBy i (hop j) r = if (eqb i j && eqb (refusalIn r) 0) hops
-hopBy i take r = []
-hopBy i (load j bs) r = []
-hopBy i (status j s) r = []
-hopBy i (wish j w) r = []
-hopBy i (drain b) r = []
+abbrev pub hopSeen : ℕ → Action → Answer → List (Turn papers)
+hopSeen i (put f) r = []
+hopSeen i (hop j) r = if (eqb i j && eqb (refusalIn r) 0) hops
+hopSeen i take r = []
+hopSeen i (load j bs) r = []
+hopSeen i (status j s) r = []
+hopSeen i (wish j w) r = []
+hopSeen i (drain b) r = []
 
 -- the local call that device i accepted
-abbrev pub callBy : ℕ → Action → Answer → List Local
-callBy i (put f) r = []
-callBy i (hop j) r = []
-callBy i take r = []
-callBy i (load j bs) r = if (eqb i j && eqb (refusalIn r) 0) (toLoad bs)
-callBy i (status j s) r = if (eqb i j && eqb (refusalIn r) 0) (toStatus s)
-callBy i (wish j w) r = if (eqb i j && eqb (refusalIn r) 0) (toWish w)
-callBy i (drain b) r = []
+abbrev pub callSeen : ℕ → Action → Answer → List Local
+callSeen i (put f) r = []
+callSeen i (hop j) r = []
+callSeen i take r = []
+callSeen i (load j bs) r = if (eqb i j && eqb (refusalIn r) 0) (toLoad bs)
+callSeen i (status j s) r = if (eqb i j && eqb (refusalIn r) 0) (toStatus s)
+callSeen i (wish j w) r = if (eqb i j && eqb (refusalIn r) 0) (toWish w)
+callSeen i (drain b) r = []
 
 -- the turn of device i
-abbrev pub turnBy : ℕ → Action → Answer → List (Turn papers)
-turnBy i c r = hopBy i c r ++ map (λ (x : Local). does x) (callBy i c r)
+abbrev pub turnSeen : ℕ → Action → Answer → List (Turn papers)
+turnSeen i c r = hopSeen i c r ++ map (λ (x : Local). does x) (callSeen i c r)
 
 abbrev pub isDrain : Action → Bool
 isDrain (put f) = false
@@ -226,22 +226,26 @@ abbrev pub Drainless : List Action → Type 0
 Drainless cs = Every (λ c. isDrain c ≡ false) cs
 
 module _ (a : List ℕ) (cs : List Action) where
-  abbrev pub turnsRead : ℕ → List (Turn papers)
-  turnsRead i = each (turnBy i) cs ((history a cs) .1)
+  abbrev pub turnsSeen : ℕ → List (Turn papers)
+  turnsSeen i = each (turnSeen i) cs ((history a cs) .1)
 
-  abbrev pub callsAccepted : ℕ → List Local
-  callsAccepted i = each (callBy i) cs ((history a cs) .1)
+  abbrev pub callsSeen : ℕ → List Local
+  callsSeen i = each (callSeen i) cs ((history a cs) .1)
 
 -- ---- Each frame right round before the next
+
+-- a local call of device i
+abbrev pub localCall : ℕ → Local → Action
+localCall i (toLoad bs) = load i bs
+localCall i (toStatus s) = status i s
+localCall i (toWish w) = wish i w
 
 -- a call of the line as an action
 abbrev pub action : line.Call papers → Action
 action (line.put f) = put f
 action (line.hop i) = hop i
 action line.take = take
-action (line.local i (toLoad bs)) = load i bs
-action (line.local i (toStatus s)) = status i s
-action (line.local i (toWish w)) = wish i w
+action (line.local i c) = localCall i c
 action (line.drain b) = drain b
 
 -- The same frames and the same turns: put; for each device its local calls up to there, then its hop; take; the next

@@ -4,27 +4,28 @@ use Prim.Native.Nat.{ℕ, suc, _<_}
 use mathlib.Core.Path.{_≡_}
 use mathlib.Core.Bool.{true}
 use mathlib.Core.List.{List, [], _∷_, _++_}
+use Rattle.frame.specs.Messages.{frames}
 use Rattle.device.specs.PowerOn.{powerOn}
 use Rattle.device.specs.Take.{takes}
 use Rattle.area.specs.Loop.{Loop, countIn, loopOf, areaOf, device, link}
 use Rattle.calls.specs.Outcome.{After}
-use Rattle.demands.specs.Calls.{Action, put, hop, drain, Call, onArea, Answer, plain, hopped, taken, drained}
-use Rattle.demands.specs.Calls.{decoded, encoded, pil, refusalIn}
+use Rattle.demands.specs.Calls.{Action, put, hop, drain, Call, onArea, decode, Answer, plain, hopped, taken}
+use Rattle.demands.specs.Calls.{drained, decoded, encoded, pil, refusalIn}
 use Rattle.demands.specs.Conditions.{Empty, Full}
 use Rattle.demands.specs.Histories.{hopsBy}
 use Rattle.demands.specs.Demands.{Refuses, CanHop, ruled, Obeys}
 
 -- ---- Demand 1
 
--- No model that refuses always,
-abbrev pub RefusesAll : (ℕ → Action) → Type 0
-RefusesAll call = (model : Call → List ℕ → After Answer) →
+-- No model that refuses a call always, whatever its number and the area, meets demand 1:
+abbrev pub NoneRefusing : (ℕ → Action) → Type 0
+NoneRefusing call = (model : Call → List ℕ → After Answer) →
     ((x : ℕ) (a : List ℕ) → refusalIn (model (onArea (call x)) a .answer) ≡ 0 → ⊥) → Refuses model → ⊥
 
--- be it every put alone, or every hop alone, meets demand 1.
+-- be it every put, or every hop.
 pub record RefuserShutOut : Type 0 where
-  pub of-puts : RefusesAll put
-  pub of-hops : RefusesAll hop
+  pub of-puts : NoneRefusing put
+  pub of-hops : NoneRefusing hop
 
 -- one device with no frame before it and four behind it: 5 and 6 both hold for its hop, and 5 is given
 abbrev pub stuck : Loop
@@ -37,7 +38,7 @@ pub record LowestGiven : Type 0 where
 
 -- ---- Demand 2
 
--- the frame in a hop's answer
+-- the frame in a hop's answer, and the kind in a decoder's
 abbrev pub frameIn : Answer → ℕ
 frameIn (plain k) = 0
 frameIn (hopped r) = r .frame
@@ -46,22 +47,35 @@ frameIn (drained r) = 0
 frameIn (decoded r) = 0
 frameIn (encoded r) = 0
 
--- No model whose hops pass every frame untouched meets demand 2: by what they answer, nor by what they leave.
-pub record PasserShutOut : Type 0 where
-  pub answering : (model : Action → List ℕ → After Answer) →
-      ((i f : ℕ) (fs a : List ℕ) → CanHop i f fs a → frameIn (model (hop i) a .answer) ≡ f) → Obeys model → ⊥
-  pub leaving : (model : Action → List ℕ → After Answer) →
-      ((i f : ℕ) (fs a : List ℕ) → CanHop i f fs a →
-      link (loopOf (model (hop i) a .area)) (suc i) ≡ link (loopOf a) (suc i) ++ (f ∷ [])) → Obeys model → ⊥
+abbrev pub kindIn : Answer → ℕ
+kindIn (plain k) = 0
+kindIn (hopped r) = 0
+kindIn (taken r) = 0
+kindIn (drained r) = 0
+kindIn (decoded r) = r .kind
+kindIn (encoded r) = 0
 
--- Nor does one whose first hop does the next device's work too.
+-- No model whose decoder has one kind for every frame meets demand 2.
+abbrev pub OneKindShutOut : Type 0
+OneKindShutOut = (k : ℕ) (model : Call → List ℕ → After Answer) →
+    ((f : ℕ) (a : List ℕ) → f < frames → kindIn (model (decode f) a .answer) ≡ k) → Obeys model → ⊥
+
+-- Nor one whose hops pass every frame untouched, by what they answer or by what they leave.
+pub record PasserShutOut : Type 0 where
+  pub answering : (model : Call → List ℕ → After Answer) →
+      ((i f : ℕ) (fs a : List ℕ) → CanHop i f fs a → frameIn (model (onArea (hop i)) a .answer) ≡ f) → Obeys model → ⊥
+  pub leaving : (model : Call → List ℕ → After Answer) →
+      ((i f : ℕ) (fs a : List ℕ) → CanHop i f fs a →
+      link (loopOf (model (onArea (hop i)) a .area)) (suc i) ≡ link (loopOf a) (suc i) ++ (f ∷ [])) → Obeys model → ⊥
+
+-- Nor one whose first hop does the next device's work too.
 abbrev pub WorkerShutOut : Type 0
-WorkerShutOut = (model : Action → List ℕ → After Answer) →
+WorkerShutOut = (model : Call → List ℕ → After Answer) →
     ((f : ℕ) (fs a : List ℕ) → CanHop 0 f fs a → 1 < countIn a →
-    device (loopOf (model (hop 0) a .area)) 1 ≡ takes (device (loopOf a) 1) (ruled 0 f a .frame) .device) →
+    device (loopOf (model (onArea (hop 0)) a .area)) 1 ≡ takes (device (loopOf a) 1) (ruled 0 f a .frame) .device) →
     Obeys model → ⊥
 
--- Nor one whose drains answer some number of hops whatever they do: not 0 and do nothing, nor any other.
+-- Nor one whose drains answer a number of hops that goes by the budget alone, 0 for doing nothing among them.
 abbrev pub InventedCountShutOut : Type 0
-InventedCountShutOut = (n : ℕ) (model : Action → List ℕ → After Answer) →
-    ((b : ℕ) (a : List ℕ) → hopsBy (drain b) (model (drain b) a .answer) ≡ n) → Obeys model → ⊥
+InventedCountShutOut = (count : ℕ → ℕ) (model : Call → List ℕ → After Answer) →
+    ((b : ℕ) (a : List ℕ) → hopsBy (drain b) (model (onArea (drain b)) a .answer) ≡ count b) → Obeys model → ⊥

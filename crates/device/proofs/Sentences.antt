@@ -67,6 +67,7 @@ own-not-passed d f s i =
 pub idy-goes-on : IdyGoesOn
 idy-goes-on =
     record {
+      not-handed = λ d f i. rw (idy-frame d f (i .first) (i .past));
       still-idy =
           λ d f i. rw (idy-frame d f (i .first) (i .past))
           (record { first = omega (arith, marked-above d f); past = marked-below d f 4 (i .past) });

@@ -23,7 +23,7 @@ Of k f = kindAt f ≡ numberOf k
 abbrev pub HasC1 : ℕ → Type 0
 HasC1 f = f / c1 % 2 ≡ 1
 
--- talker states 2-5
+-- talker states 2-5, and what is above them in a device that is not sound
 abbrev pub Sending : Device → Type 0
 Sending d = addressed < d .talker
 
@@ -47,14 +47,15 @@ ConfiguredPassesAad = (d : Device) (f : ℕ) → (d .configured ≡ 0 → ⊥) �
 abbrev pub OwnNotHanded : Type 0
 OwnNotHanded = (d : Device) (f : ℕ) → Sending d → takes d f .handed ≡ Nothing
 
--- and not passed: ETE goes out, or ETO, or the reply's next byte.
+-- and not passed: ETE goes out, or ETO, or the reply's next byte (which of them, `returned` says).
 abbrev pub OwnNotPassed : Type 0
 OwnNotPassed =
     (d : Device) (f : ℕ) → Sending d → IsData f →
     (takes d f ≡ stops d ete) ⊎ ((takes d f ≡ stops d eto) ⊎ (takes d f ≡ continues d))
 
--- IDY goes on in every state, its data bits unchanged, and leaves the device as it was.
+-- IDY goes on in every state, its data bits unchanged; it is handed to nobody, and leaves the device as it was.
 pub record IdyGoesOn : Type 0 where
+  pub not-handed : (d : Device) (f : ℕ) → IsIdentify f → takes d f .handed ≡ Nothing
   pub still-idy : (d : Device) (f : ℕ) → IsIdentify f → IsIdentify (takes d f .frame)
   pub same-bits : (d : Device) (f : ℕ) → IsIdentify f → dataBits (takes d f .frame) ≡ dataBits f
   pub same-device : (d : Device) (f : ℕ) → IsIdentify f → takes d f .device ≡ d
@@ -69,7 +70,7 @@ ServiceShown =
     (d : Device) (f : ℕ) → takes d f .device .service ≡ asking → ShowsService (takes d f .frame) →
     HasC1 (takes d f .frame)
 
--- C1 is never cleared on a frame passed: with C1 set data, end and IDY go on as they came.
+-- C1 is never cleared on a frame passed: with C1 set, data, end and IDY go on as they came.
 pub record C1Kept : Type 0 where
   pub on-data : (d : Device) (f : ℕ) → d .talker ≤ addressed → IsData f → HasC1 f → takes d f .frame ≡ f
   pub on-idy : (d : Device) (f : ℕ) → IsIdentify f → HasC1 f → takes d f .frame ≡ f

@@ -5,14 +5,25 @@ use Rattle.device.proofs.Arms.{arms}
 use Rattle.data.proofs.returned.Statement.{statement}
 use Rattle.data.proofs.returned.Tie as tie
 
-pub returned-spec : {M : Type 1} → statement M
+returns : tie.Need-returns
 unfolding returned
+returns c = search (arms, c .stops .ensures)
+
+returns-2 : tie.Need-returns-2
+unfolding returned
+returns-2 c = search arms
+
+returns-3 : tie.Need-returns-3
+unfolding returned
+returns-3 c = search (arms, c .stops2 .ensures)
+
+pub returned-spec : {M : Type 1} → statement M
 returned-spec =
     tie.close
     (tie.spec
     (λ c κs. search needs)
-    (λ c. search (arms, c .stops .ensures))
+    returns
     (λ c κs. search needs)
-    (λ c. search arms)
+    returns-2
     (λ c κs. search needs)
-    (λ c. search (arms, c .stops2 .ensures)))
+    returns-3)
