@@ -40,7 +40,7 @@ pub fn set_device(area: &mut [u8], i: usize, d: Device)
     ensures { λ _. ⌜ Holds (now (area .exit)) (setDevice i d (loopOf (now (area .entry)))) ⌝ }
 {
     let at = record_start(area, i);
-    record::write::write(&mut area[at..at + record::SIZE], d);
+    record_write::write(&mut area[at..at + record::SIZE], d);
 }
 
 // An area of n devices that are all zero, with empty links.
@@ -48,6 +48,6 @@ pub fn blank(area: &mut [u8], n: usize)
     requires { ⌜ (1 ≤ n) × (n ≤ mostDevices) × (length (now area) ≡ areaSize n) ⌝ }
     ensures { λ _. ⌜ Holds (now (area .exit)) (blankOf n) ⌝ }
 {
-    record::write::clear(area);
+    record_write::clear(area);
     area[0] = n as u8;
 }

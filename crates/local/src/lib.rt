@@ -9,7 +9,7 @@ use record::SIZE;
 use record::STATUS;
 use record::TALKER;
 use record::read::has;
-use record::write::clear;
+use record_write::clear;
 ghost use mathlib.Core.Path.{_≡_};
 ghost use Prim.Native.Nat.{_≤_};
 ghost use lib.ListN.{length};

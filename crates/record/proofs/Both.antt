@@ -1,4 +1,5 @@
--- Tests joined by `&&`, each equal to another: so are the joined ones.
+-- Tests joined by `&&`: each equal to another, so that the joined ones are; and what one that was passed, or failed,
+-- says of both.
 use mathlib.Core.Path.{_≡_, refl}
 use mathlib.Core.Bool.{Bool, true, false, _&&_}
 
@@ -15,3 +16,11 @@ left false b h = h
 pub right : (a b : Bool) → (a && b) ≡ true → b ≡ true
 right true b h = h
 right false b h = let z : false ≡ true = h in cc
+
+pub passed : {a b r x : Bool} → r ≡ a → r ≡ true → x ≡ b → x ≡ (a && b)
+passed e t h = rw (← e, t) h
+
+pub failed : {a r : Bool} (b : Bool) → r ≡ a → r ≡ false → false ≡ (a && b)
+failed b e t = rw (← e, t)
+
+pub ruleset chain = (passed, failed)

@@ -1,7 +1,6 @@
-// A device's record of 64 bytes (01, The lent area): its places, what is read from it where it lies, and the record of
-// a device at power-on. When it is sound is judged in the crate sound.
+// A device's record of 64 bytes (01, The lent area): its places, and what is read from it where it lies. The crate
+// record_write writes whole ones, and the crate sound judges when one is sound.
 pub mod read;
-pub mod write;
 
 ghost use mathlib.Core.Path.{_≡_};
 ghost use Prim.Native.Nat.{_+_, _<_};

@@ -1,27 +1,17 @@
--- The clauses in groups are all the clauses; and what a group that was passed, or failed, says of all.
+-- The clauses in groups are all the clauses; and at power-on, what of them is left to test.
 use Prim.Native.Nat.{ℕ}
-use mathlib.Core.Path.{_≡_, refl, ap}
+use mathlib.Core.Path.{_≡_, refl}
 use mathlib.Core.Bool.{Bool, true, false, _&&_}
 use mathlib.Core.List.{List}
 use lib.Dec.{eqb, leb}
 use lib.ListN.{getD, take, drop}
 use borrow.Author.Tests.{eq-eqb}
-use Rattle.device.specs.Device.{sendingData}
 use Rattle.device.specs.PowerOn.{bytesFrom, powerOn}
-use Rattle.device.specs.declared.Device.{Device}
 use Rattle.record.specs.Record.{deviceOf, zeros}
-use Rattle.record.specs.Sound.{only, inRange, zeroPast, serviceWithStatus, unaddressWithBoth, unconfiguredFixed}
-use Rattle.record.specs.Sound.{configuredAble, listenerAble, serviceAble, sendingAble, addressedAble, dataAble}
-use Rattle.record.specs.Sound.{repliedRight, quietOutside, lastBelow, soundDevice, soundRecord}
-use Rattle.record.proofs.Both.{left, right, both-true}
-use Rattle.sound.specs.Groups.{abilitiesAllowed, ableAll, talkerRight, dataRight, stateRight}
-
--- two tests are equal where each follows from the other
-same : (a b : Bool) → (a ≡ true → b ≡ true) → (b ≡ true → a ≡ true) → a ≡ b
-same true true f g = refl
-same true false f g = let z = f refl in cc
-same false true f g = let z = g refl in cc
-same false false f g = refl
+use Rattle.record.specs.Sound.{inRange, zeroPast, serviceWithStatus, unaddressWithBoth, unconfiguredFixed}
+use Rattle.record.specs.Sound.{configuredAble, listenerAble, serviceAble, soundDevice, soundRecord}
+use Rattle.talker_sound.specs.Talker.{talkerRight}
+use Rattle.sound.specs.Groups.{abilitiesAllowed, ableAll}
 
 regrouped : (p q i z s u f c l v t : Bool) →
     (p && (q && (i && (z && (s && (u && (f && (c && (l && (v && t)))))))))) ≡
@@ -47,24 +37,6 @@ grouped b =
     let d = deviceOf b in
     regrouped (eqb (getD b 7 0) 0) (zeros (take 7 (drop 17 b))) (inRange d) (zeroPast d) (serviceWithStatus d)
     (unaddressWithBoth d) (unconfiguredFixed d) (configuredAble d) (listenerAble d) (serviceAble d) (talkerRight d)
-
--- the talker's clauses, parted
-parted : (s a d w o r q l : Bool) →
-    (s && (a && (d && ((w && o) && (r && (q && l)))))) ≡ ((d && (w && l)) && (s && (a && (o && (r && q)))))
-parted s a d w o r q l = same _ _ (λ h. search (left, right, both-true)) (λ h. search (left, right, both-true))
-
-pub talker-parted : (d : Device) → talkerRight d ≡ (dataRight d && stateRight d)
-talker-parted d =
-    parted (sendingAble d) (addressedAble d) (dataAble d) (leb (d .sent) (d .loadlength))
-    (only (eqb (d .talker) sendingData) (leb 1 (d .sent))) (repliedRight d) (quietOutside d) (lastBelow d)
-
-pub passed : {a b r x : Bool} → r ≡ a → r ≡ true → x ≡ b → x ≡ (a && b)
-passed e t h = rw (← e, t) h
-
-pub failed : {a r : Bool} (b : Bool) → r ≡ a → r ≡ false → false ≡ (a && b)
-failed b e t = rw (← e, t)
-
-pub ruleset chain = (passed, failed)
 
 -- at power-on only the item's values are left to test
 pub at-power-on : (item : List ℕ) →

@@ -1,3 +1,3 @@
--- The clauses of soundness in groups, and those that go by the talker's state.
+-- The clauses of soundness in groups, and those that go by whether the device is configured.
 mod Groups
-mod States
+mod Addresses

@@ -1,12 +1,5 @@
 // When a record is sound (01, "Sound means"), judged where it lies; the same clauses judge a set-up item. Each group of
 // clauses stands in a test of its own, so that the first that fails decides.
-mod talker;
-mod zeros;
-
-use crate::talker::talker_right;
-use crate::zeros::spare_zero;
-use crate::zeros::zero_past;
-use crate::zeros::zero_past_length;
 use device::Device;
 use record::ABILITIES;
 use record::ADDRESS;
@@ -19,6 +12,10 @@ use record::NOTED;
 use record::SERVICE;
 use record::TALKER;
 use record::read::has;
+use talker_sound::talker_right;
+use zero_bytes::spare_zero;
+use zero_bytes::zero_past;
+use zero_bytes::zero_past_length;
 ghost use mathlib.Core.Path.{_≡_};
 ghost use lib.ListN.{length};
 ghost use Rattle.device.specs.declared.Device.{Device};

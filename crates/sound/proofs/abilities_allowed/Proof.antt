@@ -1,6 +1,6 @@
 -- `sound::abilities_allowed` meets its contract: the first test that fails decides.
 use borrow.Author.Needs.{needs}
-use Rattle.sound.proofs.Groups.{passed, failed}
+use Rattle.record.proofs.Both.{passed, failed}
 use Rattle.sound.proofs.abilities_allowed.Statement.{statement}
 use Rattle.sound.proofs.abilities_allowed.Tie as tie
 

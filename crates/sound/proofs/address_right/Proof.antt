@@ -1,7 +1,7 @@
 -- `sound::address_right` meets its contract: by whether the device is configured, what the clauses come to.
 use borrow.Author.Needs.{needs}
 use Rattle.record.specs.Record.{deviceOf}
-use Rattle.sound.proofs.States.{unconfigured-right, configured-right, neither-right}
+use Rattle.sound.proofs.Addresses.{unconfigured-right, configured-right, neither-right}
 use Rattle.sound.proofs.address_right.Statement.{statement}
 use Rattle.sound.proofs.address_right.Tie as tie
 

@@ -1,7 +1,7 @@
 -- `sound::record_sound` meets its contract: the groups are all the clauses, and the first that fails decides.
 use borrow.Author.Needs.{needs}
-use Rattle.record.proofs.Both.{both}
-use Rattle.sound.proofs.Groups.{grouped, chain}
+use Rattle.record.proofs.Both.{both, chain}
+use Rattle.sound.proofs.Groups.{grouped}
 use Rattle.sound.proofs.record_sound.Statement.{statement}
 use Rattle.sound.proofs.record_sound.Tie as tie
 
