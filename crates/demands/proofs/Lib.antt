@@ -11,5 +11,3 @@ pub mod Spliced
 pub mod Second
 pub mod Rendered
 pub mod Third
-pub mod Teeth
-pub mod Example

@@ -136,8 +136,8 @@ demand-2 =
             takes-out = λ f fs a j e. take-leaves a j f fs e;
             local-calls = λ c i a j h z. local-call-leaves a j c i h z;
             sets-up = set-up-leaves;
-            decodes = λ f a h. decode-answers f h;
-            encodes = λ k o a h. encode-answers k o h;
+            decodes = λ f a h. ap (λ (r : Answer). after r a) (decode-answers f h);
+            encodes = λ k o a h. ap (λ (r : Answer). after r a) (encode-answers k o h);
           };
       messages-in-order = in-order;
       encode-decode = encode-decode;

@@ -1,8 +1,8 @@
 -- The three demands on the model, over the very definitions that the contracts of the exported functions cite.
--- It leans on Calls, Conditions, Drains, Histories (Teeth says what it shuts out); frame's Messages, Coding, Laws;
--- coding's Coding; device's Sent, and Take with the rules that it names; local's Local; record's Record, Parts, Sound,
--- Fits; area's Sizes, Parts, Link, Loop, Lookup; calls' Outcome, Calls, Drain, SetUp; order's Line, Flat, History,
--- RightRound, Through, which have names of their own.
+-- It leans on Calls, Conditions, Drains, Histories (the crate teeth says what it shuts out); frame's Messages, Coding,
+-- Laws; coding's Coding; device's Sent, and Take with the rules that it names; local's Local; record's Record, Parts,
+-- Sound, Fits; area's Sizes, Parts, Link, Loop, Lookup; calls' Outcome, Calls, Drain, SetUp; order's Line, Flat,
+-- History, RightRound, Through, which have names of their own.
 use Prim.Native.Nat.{ℕ, suc, _+_, _*_, _<_}
 use mathlib.Core.Path.{_≡_}
 use mathlib.Core.List.{List, [], _∷_, _++_, tail}
@@ -41,9 +41,9 @@ pub record Refuses (model : Call → List ℕ → After Answer) : Type 0 where
 abbrev pub Demand1 : Type 0
 Demand1 = Refuses pil
 
--- ---- Demand 2: every call does, and every device, what the papers say
+-- ---- Demand 2: every device does what the papers say, and every call
 
--- a: any bytes without a refusal
+-- An area that is bytes and has no refusal.
 pub record Judged (a : List ℕ) : Type 0 where
   pub bytes : Bytes a
   pub sound : judgeOf a ≡ 0
@@ -97,11 +97,11 @@ pub record Obeys (model : Call → List ℕ → After Answer) : Type 0 where
   -- a set-up that is not refused leaves power-on devices and empty links;
   pub sets-up : (items : List Byte) (a : List ℕ) → lowest (setUp items) a ≡ 0 →
       model (setUp items) a ≡ after (plain 0) (areaOf (poweredOn (devicesAt (length a)) (numbers items)))
-  -- the decoder answers the message table's kind, and the encoder the kind's first code and the offset.
+  -- the decoder answers the message table's kind, and the encoder the kind's first code plus the offset.
   pub decodes : (f : ℕ) (a : List ℕ) → f < frames →
-      model (decode f) a .answer ≡ decoded (record { refusal = 0; kind = kindAt f })
+      model (decode f) a ≡ after (decoded (record { refusal = 0; kind = kindAt f })) a
   pub encodes : (k o : ℕ) (a : List ℕ) → o < codesOf k →
-      model (encode k o) a .answer ≡ encoded (record { frame = firstOf k + o; refusal = 0 })
+      model (encode k o) a ≡ after (encoded (record { frame = firstOf k + o; refusal = 0 })) a
 
 -- That the published table has the decoder's kind at every frame is the contract of `published::kind`.
 pub record Demand2 : Type 0 where

@@ -1,8 +1,6 @@
--- The three demands: Demands is the page to read; the others are what it speaks of, what it shuts out, and an example.
+-- The three demands: Demands is the page to read, and the others are what it speaks of.
 pub mod Calls
 pub mod Conditions
 pub mod Histories
 pub mod Drains
 pub mod Demands
-pub mod Teeth
-pub mod Example

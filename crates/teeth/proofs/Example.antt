@@ -19,9 +19,9 @@ use Rattle.calls.specs.Outcome.{callOf}
 use Rattle.calls.specs.Calls.{putIn, takeIn, hopIn, localIn}
 use Rattle.calls.specs.Drain.{canHop, highest, drainFrom}
 use Rattle.calls.specs.SetUp.{itemsFit, setUpOf}
 use Rattle.demands.specs.Histories.{areaLeft}
 use Rattle.demands.specs.Demands.{AllEmpty}
-use Rattle.demands.specs.Example.{fresh, mixed, Example}
+use Rattle.teeth.specs.Example.{fresh, mixed, Example}
 
 empty : AllEmpty (areaLeft fresh mixed)
 unfolding messages kindAt lookup within firstIn firstOf choose powerOn bytesFrom lad tad aau marked requested polls sst

@@ -25,13 +25,13 @@ use Rattle.area.specs.Link.{framesOf, linkOf, soundSlot, soundLink}
 use Rattle.area.specs.Loop.{countIn, loopOf, areaOf, shaped, sound, judgeOf, device, link}
 use Rattle.calls.specs.Outcome.{After, callOf}
 use Rattle.calls.specs.Calls.{hopAnswer, hopIn}
 use Rattle.demands.specs.Calls.{Action, put, hop, drain, Call, onArea, Answer, hopped}
 use Rattle.demands.specs.Histories.{Got, handedBy, hopsBy}
 use Rattle.demands.specs.Drains.{highestOf, stopsBefore, onceHopped, byHops}
 use Rattle.demands.specs.Conditions.{lowest}
 use Rattle.demands.specs.Demands.{Judged, CanHop, ruled, hopLeaves, Obeys}
-use Rattle.demands.specs.Teeth.{RefuserShutOut, LowestGiven, frameIn, kindIn, OneKindShutOut, PasserShutOut}
-use Rattle.demands.specs.Teeth.{WorkerShutOut, InventedCountShutOut}
+use Rattle.teeth.specs.Teeth.{RefuserShutOut, LowestGiven, frameIn, kindIn, OneKindShutOut, PasserShutOut}
+use Rattle.teeth.specs.Teeth.{WorkerShutOut, InventedCountShutOut}
 
 -- ---- three loops: fresh devices that can be auto-addressed, and AAD 0 before the first, or nothing
 
@@ -190,9 +190,9 @@ one-kind-shut-out k model same o =
     omega (
       arith,
       same 0 [] (omega arith),
-      ap kindIn (o .decodes 0 [] (omega arith)),
+      ap (λ (x : After Answer). kindIn (x .answer)) (o .decodes 0 [] (omega arith)),
       same 0x200 [] (omega arith),
-      ap kindIn (o .decodes 0x200 [] (omega arith)),
+      ap (λ (x : After Answer). kindIn (x .answer)) (o .decodes 0x200 [] (omega arith)),
       two-kinds,
     )
 
