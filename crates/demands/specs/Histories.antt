@@ -128,7 +128,7 @@ module _ (a : List ℕ) (cs : List Action) where
 -- ---- The devices' turns. A drain does not answer which devices hopped, so turns are read off the run of the line of
 -- devices
 
--- a local call
+-- a local call, and what it makes of a device
 pub data Local : Type 0 where
   toLoad : List Byte → Local
   toStatus : Byte → Local
@@ -138,6 +138,12 @@ abbrev pub calledBy : Local → Device → Called
 calledBy (toLoad bs) d = loads d (numbers bs)
 calledBy (toStatus s) d = setsStatus d (s .value)
 calledBy (toWish w) d = wishes d w
+
+-- the same, made by device i of an area
+abbrev pub localCall : ℕ → Local → Action
+localCall i (toLoad bs) = load i bs
+localCall i (toStatus s) = status i s
+localCall i (toWish w) = wish i w
 
 -- what a device is handed, if anything
 abbrev pub handedOver : Handed → Option Got
@@ -233,12 +239,6 @@ module _ (a : List ℕ) (cs : List Action) where
   callsSeen i = each (callSeen i) cs ((history a cs) .1)
 
 -- ---- Each frame right round before the next
-
--- a local call of device i
-abbrev pub localCall : ℕ → Local → Action
-localCall i (toLoad bs) = load i bs
-localCall i (toStatus s) = status i s
-localCall i (toWish w) = wish i w
 
 -- a call of the line as an action
 abbrev pub action : line.Call papers → Action
