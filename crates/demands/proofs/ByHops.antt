@@ -1,5 +1,5 @@
--- A drain comes to its hops on the area: a device can hop just where its hop is accepted, so that the same one is the
--- highest at each turn; and each hop leaves and answers the same.
+-- A drain comes to its hops on the area: a device can hop just where the table has no refusal for its hop, so that the
+-- same one is the highest at each turn; and each hop leaves and answers the same.
 use Prim.Native.Nat.{ℕ, zero, suc, _≤_, _<_}
 use mathlib.Core.Path.{_≡_, refl, sym, ap, _∙_}
 use mathlib.Core.Bool.{Bool, true, false, cond}

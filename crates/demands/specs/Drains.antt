@@ -35,8 +35,8 @@ abbrev pub onceHopped : (i h : ℕ) → (List ℕ → After Answer) → List Got
 onceHopped i h goOn [] a = goOn a
 onceHopped i h goOn (g ∷ gs) a = stopsAfter i h g a
 
--- with budget b, after h hops: before a hop, 0 if none is possible, else 1 if the budget is spent
 module _ (model : Call → List ℕ → After Answer) where
+  -- with budget b, after h hops: before a hop, 0 if none is possible, else 1 if the budget is spent
   abbrev pub byHops : (b h : ℕ) → List ℕ → After Answer
   byHops zero h a = elim (highestOf a (countIn a)) [ none ↦ stopsBefore 0 h a | some i ↦ stopsBefore 1 h a ]
   byHops (suc b) h a =

@@ -1,4 +1,5 @@
--- The sentences of specs/Sentences.antt, in the paper's order.
+-- The sentences of specs/Sentences.antt, in the paper's order: four are told of every rule (Told), the others follow
+-- from the rule of their frames.
 use Prim.Native.Nat.{ℕ, _-_, _≤_, _<_}
 use mathlib.Core.Path.{_≡_, refl}
 use mathlib.Core.Logic.{_⊎_, inl, inr}
