@@ -10,7 +10,7 @@ use borrow.Author.Tests.{ltb-true}
 use Rattle.frame.specs.Messages.{frames}
 use Rattle.frame.specs.Coding.{badFrame}
 use Rattle.device.specs.declared.Device.{Device}
-use Rattle.local.specs.Local.{Called}
+use Rattle.record_local.specs.Local.{Called}
 use Rattle.record.specs.Fits.{Good}
 use Rattle.keeps.proofs.Keeps.{take-good}
 use Rattle.area.specs.Sizes.{depth}

@@ -5,7 +5,7 @@ use Rattle.keeps.proofs.Keeps.{load-good, status-good, wish-good}
 use Rattle.area.proofs.Areas.{holds-of}
 use Rattle.calls.specs.Outcome.{loopAfter}
 use Rattle.calls.specs.Laws.{Unique, CallOnLoop, AreaAfter, LoadKeeps, StatusKeeps, WishKeeps, OwedFew}
-use Rattle.local.specs.Local.{loads, setsStatus, wishes}
+use Rattle.record_local.specs.Local.{loads, setsStatus, wishes}
 use Rattle.calls.proofs.Outcomes.{call-done}
 use Rattle.calls.proofs.Kept.{local-keeps}
 use Rattle.calls.proofs.Owing.{owed-few}

@@ -7,12 +7,12 @@ use lib.Dec.{ltb, eqb}
 use Rattle.frame.specs.Messages.{frames}
 use Rattle.frame.specs.Coding.{badFrame}
 use Rattle.device.specs.Take.{takes}
-use Rattle.local.specs.Local.{loads, setsStatus, wishes}
+use Rattle.record_local.specs.Local.{loads, setsStatus, wishes}
 use Rattle.device.specs.declared.Device.{Device}
 use Rattle.device.specs.declared.Handed.{Handed}
 use Rattle.device.specs.declared.Handed.the-variants as handed
 use Rattle.device.specs.Sent.{Sent}
-use Rattle.local.specs.Local.{Called}
+use Rattle.record_local.specs.Local.{Called}
 use Rattle.area.specs.Loop.{Loop, size, device, link}
 use Rattle.area.specs.Lookup.{oldestOf, roomOf, placeOf, setDevice, add, remove}
 use Rattle.area.specs.declared.Oldest.{Oldest}

@@ -15,7 +15,7 @@ use Rattle.device.specs.Take.{takes}
 use Rattle.device.specs.declared.Device.{Device}
 use Rattle.device.specs.declared.Handed.{Handed}
 use Rattle.device.specs.declared.Handed.the-variants as handed
-use Rattle.local.specs.Local.{Called}
+use Rattle.record_local.specs.Local.{Called}
 use Rattle.record.specs.Record.{deviceOf}
 use Rattle.area.specs.Loop.{Loop, device, link}
 use Rattle.area.specs.Lookup.{oldestOf, setDevice, setLink, add}

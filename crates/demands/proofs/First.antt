@@ -9,7 +9,7 @@ use lib.Dec.{eqb, ltb, leb}
 use borrow.Author.Tests.{eqb-true, eqb-false, leb-true, le-leb, eq-eqb}
 use Rattle.frame.specs.Messages.{frames, kindAt, codesOf, firstOf}
 use Rattle.frame.specs.Coding.{decoding, decodeOf, encoding, encodeOf}
-use Rattle.local.specs.Local.{loads, setsStatus, wishes}
+use Rattle.record_local.specs.Local.{loads, setsStatus, wishes}
 use Rattle.record.specs.Sound.{allowed}
 use Rattle.area.specs.Sizes.{areaSize, mostDevices, itemSize}
 use Rattle.area.specs.Parts.{parts, all}

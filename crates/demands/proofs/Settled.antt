@@ -9,7 +9,7 @@ use native.Mathlib.Omega.{arith}
 use lib.Dec.{eqb, ltb}
 use borrow.Author.Tests.{eq-eqb, ne-eqb, ltb-true, eqb-true, eqb-false}
 use Rattle.frame.specs.Messages.{frames}
-use Rattle.local.specs.Local.{loads, setsStatus, wishes}
+use Rattle.record_local.specs.Local.{loads, setsStatus, wishes}
 use Rattle.area.specs.Loop.{Loop, areaOf, Sound-loop}
 use Rattle.area.proofs.Laws.{loop-back, area-sound}
 use Rattle.calls.specs.Outcome.{Outcome, refuse, done, After, after, afterOf, callOf}

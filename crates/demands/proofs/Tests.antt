@@ -11,9 +11,9 @@ use Rattle.frame.specs.Messages.{frames}
 use Rattle.device.specs.Choose.{choose}
 use Rattle.device.specs.Device.{has}
 use Rattle.device.specs.Change.{loading}
-use Rattle.local.specs.Local.{refused, accepted, loads, setsStatus, wishes}
+use Rattle.record_local.specs.Local.{refused, accepted, loads, setsStatus, wishes}
 use Rattle.device.specs.declared.Device.{Device}
-use Rattle.local.specs.Local.{Called}
+use Rattle.record_local.specs.Local.{Called}
 use Rattle.device.specs.declared.Handed.{Handed}
 use Rattle.device.specs.declared.Handed.the-variants as handed
 use Rattle.record.specs.Record.{recordSize, deviceOf}

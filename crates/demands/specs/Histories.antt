@@ -8,11 +8,11 @@ use mathlib.Core.List.{List, [], _∷_, _++_, map}
 use lib.Dec.{eqb, ltb, lit<}
 use Rattle.frame.specs.Messages.{frames}
 use Rattle.device.specs.Take.{takes}
-use Rattle.local.specs.Local.{loads, setsStatus, wishes}
+use Rattle.record_local.specs.Local.{loads, setsStatus, wishes}
 use Rattle.device.specs.declared.Device.{Device}
 use Rattle.device.specs.declared.Handed.{Handed}
 use Rattle.device.specs.declared.Handed.the-variants as handed
-use Rattle.local.specs.Local.{Called}
+use Rattle.record_local.specs.Local.{Called}
 use Rattle.area.specs.Sizes.{depth}
 use Rattle.area.specs.Loop.{countIn, loopOf}
 use Rattle.order.specs.Line as line

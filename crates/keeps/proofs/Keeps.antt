@@ -17,13 +17,13 @@ use Rattle.device.specs.Reply.{sends, marked, eto, ete}
 use Rattle.device.specs.Ready.{requested, polls, sst, nrd, aad}
 use Rattle.device.specs.Data.{returned, heard, dataOrEnd}
 use Rattle.device.specs.Take.{number, rules, takes}
-use Rattle.local.specs.Local.{loads, setsStatus, wishing, wishes}
+use Rattle.record_local.specs.Local.{loads, setsStatus, wishing, wishes}
 use Rattle.device.specs.declared.Device.{Device}
 use Rattle.device.specs.Sentences.{Of}
 use Rattle.device.proofs.Classes.{aad-codes}
 use Rattle.device.proofs.Chosen.{chosen, selected}
 use Rattle.device.proofs.Marked.{marked-below}
-use Rattle.local.specs.Local.{Called}
+use Rattle.record_local.specs.Local.{Called}
 use Rattle.record.specs.Fits.{Good}
 use Rattle.keeps.specs.Keeps.{TakeKeeps, TakeBelow, LoadKeeps, StatusKeeps, WishKeeps}
 use Rattle.keeps.proofs.Groups.{Kept, kept-of, good-of, lt-out}

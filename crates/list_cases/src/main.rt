@@ -11,7 +11,7 @@ fn list(name: &[u8]) {
     let mut script = io::large_buffer();
     let n = io::read_full(file, &mut script);
     libc::close(file);
-    printer::print(&script[..n]);
+    list_out::print(&script[..n]);
 }
 
 // Argument i and its script.

@@ -8,8 +8,8 @@ use lib.Dec.{eqb}
 use lib.ListN.{take-append-drop}
 use borrow.Author.Tests.{eqb-true}
 use Rattle.device.specs.declared.Device.{Device}
-use Rattle.local.specs.Local.{Called}
-use Rattle.local.specs.InPlace.{InPlace}
+use Rattle.record_local.specs.Local.{Called}
+use Rattle.record_local.specs.InPlace.{InPlace}
 use Rattle.record.specs.Record.{recordSize, deviceOf, recordOf}
 use Rattle.record.specs.Written.{IsRecord}
 use Rattle.record.specs.Fits.{Good, Bytes}

@@ -1,4 +1,5 @@
-// The local calls of a device, made in its record: load data, set status, wish for service.
+// The local calls on an area: load data, set status, wish for service. The device is found by its number, and the call
+// is made in its record (record_local).
 use area::lookup::record_start;
 use find::Found;
 use find::find;
@@ -13,7 +14,7 @@ pub fn load(area: &mut [u8], device: u64, bytes: &[u8]) -> u8
         Found::Refused(wrong) => wrong,
         Found::At(i) => {
             let at = record_start(area, i);
-            local::load(&mut area[at..at + SIZE], bytes)
+            record_local::load(&mut area[at..at + SIZE], bytes)
         }
     }
 }
@@ -25,7 +26,7 @@ pub fn status(area: &mut [u8], device: u64, status: u8) -> u8
         Found::Refused(wrong) => wrong,
         Found::At(i) => {
             let at = record_start(area, i);
-            local::status(&mut area[at..at + SIZE], status)
+            record_local::status(&mut area[at..at + SIZE], status)
         }
     }
 }
@@ -37,7 +38,7 @@ pub fn wish(area: &mut [u8], device: u64, wish: u64) -> u8
         Found::Refused(wrong) => wrong,
         Found::At(i) => {
             let at = record_start(area, i);
-            local::wish(&mut area[at..at + SIZE], wish)
+            record_local::wish(&mut area[at..at + SIZE], wish)
         }
     }
 }

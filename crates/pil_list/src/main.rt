@@ -7,5 +7,5 @@ const ROOM: usize = LONGEST + 1;
 fn main() {
     let mut input = [0u8; ROOM];
     let n = io::read_full(libc::STDIN_FILENO, &mut input);
-    printer::print(&input[..n]);
+    list_out::print(&input[..n]);
 }

@@ -9,7 +9,7 @@ use Rattle.device.specs.Reply.{marked}
 use Rattle.device.specs.Ready.{requested, polls, sst, nrd, aad}
 use Rattle.device.specs.Data.{returned, heard, dataOrEnd}
 use Rattle.device.specs.Take.{takes}
-use Rattle.local.specs.Local.{loads}
+use Rattle.record_local.specs.Local.{loads}
 use Rattle.record.specs.Record.{deviceOf, recordOf, zeros}
 use Rattle.record.specs.Sound.{soundDevice, soundRecord, allowed}
 use Rattle.area.specs.Parts.{parts, join, all}

@@ -1,7 +1,7 @@
 -- Refused as the device was found; else the call made in the record of the device that was found.
 use mathlib.Core.Path.{sym, _∙_}
 use borrow.Author.Needs.{needs}
-use Rattle.local.specs.Local.{wishes}
+use Rattle.record_local.specs.Local.{wishes}
 use Rattle.keeps.proofs.Keeps.{wish-good}
 use Rattle.local_calls.proofs.Called.{refused, there, its-record, made}
 use Rattle.local_calls.proofs.wish.Statement.{statement}

@@ -18,8 +18,8 @@ ghost use Rattle.device.specs.PowerOn.{bytesFrom};
 ghost use Rattle.device.specs.Change.{loading};
 ghost use Rattle.record.specs.Record.{deviceOf, recordOf};
 ghost use Rattle.record.specs.Written.{IsRecord};
-ghost use Rattle.local.specs.Local.{loads, setsStatus, wishing, wishes};
-ghost use Rattle.local.specs.InPlace.{InPlace};
+ghost use Rattle.record_local.specs.Local.{loads, setsStatus, wishing, wishes};
+ghost use Rattle.record_local.specs.InPlace.{InPlace};
 
 const NO_ABILITY: u8 = 7;
 

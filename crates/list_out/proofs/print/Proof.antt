@@ -1,8 +1,8 @@
 -- The first chunk's text stands within the buffer.
 use borrow.Author.Needs.{needs}
 use Rattle.lister.proofs.Doing.{fits}
-use Rattle.printer.proofs.print.Statement.{statement}
-use Rattle.printer.proofs.print.Tie as tie
+use Rattle.list_out.proofs.print.Statement.{statement}
+use Rattle.list_out.proofs.print.Tie as tie
 
 write-requires : tie.Need-write-requires
 write-requires c κs = let s = c .before .before .before in fits (s .start .ensures) (s .start .kept .1 .1 .0)

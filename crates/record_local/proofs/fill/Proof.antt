@@ -2,8 +2,8 @@
 use mathlib.Core.Path.{_∙_}
 use borrow.Author.Needs.{needs}
 use Rattle.device.proofs.Bytes.{padded-is}
-use Rattle.local.proofs.fill.Statement.{statement}
-use Rattle.local.proofs.fill.Tie as tie
+use Rattle.record_local.proofs.fill.Statement.{statement}
+use Rattle.record_local.proofs.fill.Tie as tie
 
 returns : tie.Need-returns
 returns c =

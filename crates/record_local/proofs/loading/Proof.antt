@@ -5,9 +5,9 @@ use lib.ListN.{length, length-set}
 use Rattle.device.specs.Change.{loading}
 use Rattle.record.specs.Record.{deviceOf}
 use Rattle.record.proofs.Laws.{record-wide}
-use Rattle.local.proofs.InPlace.{data-written}
-use Rattle.local.proofs.loading.Statement.{statement}
-use Rattle.local.proofs.loading.Tie as tie
+use Rattle.record_local.proofs.InPlace.{data-written}
+use Rattle.record_local.proofs.loading.Statement.{statement}
+use Rattle.record_local.proofs.loading.Tie as tie
 
 returns : tie.Need-returns
 returns c =

@@ -6,7 +6,7 @@ use mathlib.Core.Bool.{cond}
 use mathlib.Core.List.{List}
 use lib.Dec.{eqb}
 use Rattle.record.specs.Record.{recordOf}
-use Rattle.local.specs.Local.{Called}
+use Rattle.record_local.specs.Local.{Called}
 
 -- where the device's call leaves c, the call in its record b answers r and leaves x
 pub record InPlace (b : List ℕ) (c : Called) (r : ℕ) (x : List ℕ) : Type 0 where

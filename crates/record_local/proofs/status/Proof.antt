@@ -5,10 +5,10 @@ use lib.ListN.{length-set}
 use Rattle.device.specs.Change.{statusing}
 use Rattle.device.proofs.Arms.{arms}
 use Rattle.record.specs.Record.{deviceOf}
-use Rattle.local.specs.Local.{setsStatus}
-use Rattle.local.proofs.InPlace.{status-written, left-alone, left}
-use Rattle.local.proofs.status.Statement.{statement}
-use Rattle.local.proofs.status.Tie as tie
+use Rattle.record_local.specs.Local.{setsStatus}
+use Rattle.record_local.proofs.InPlace.{status-written, left-alone, left}
+use Rattle.record_local.proofs.status.Statement.{statement}
+use Rattle.record_local.proofs.status.Tie as tie
 
 returns : tie.Need-returns
 unfolding setsStatus

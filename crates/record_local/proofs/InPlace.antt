@@ -10,8 +10,8 @@ use Rattle.device.specs.Change.{loadlength, sent, status, service, loading, sta
 use Rattle.device.specs.declared.Device.{Device}
 use Rattle.record.specs.Record.{deviceOf, recordOf}
 use Rattle.record.specs.Written.{IsRecord}
-use Rattle.local.specs.Local.{Called, accepted, refused}
-use Rattle.local.specs.InPlace.{InPlace}
+use Rattle.record_local.specs.Local.{Called, accepted, refused}
+use Rattle.record_local.specs.InPlace.{InPlace}
 
 module _ (d : Device) where
   data-put : (bs : List ℕ) →

@@ -3,10 +3,10 @@ use native.Mathlib.Omega.{arith}
 use borrow.Author.Needs.{needs}
 use Rattle.device.proofs.Arms.{arms}
 use Rattle.record.specs.Record.{deviceOf}
-use Rattle.local.specs.Local.{wishing, wishes}
-use Rattle.local.proofs.InPlace.{left-alone, left}
-use Rattle.local.proofs.wish.Statement.{statement}
-use Rattle.local.proofs.wish.Tie as tie
+use Rattle.record_local.specs.Local.{wishing, wishes}
+use Rattle.record_local.proofs.InPlace.{left-alone, left}
+use Rattle.record_local.proofs.wish.Statement.{statement}
+use Rattle.record_local.proofs.wish.Tie as tie
 
 returns : tie.Need-returns
 unfolding wishes

@@ -3,8 +3,8 @@ use mathlib.Core.Path.{_≡_, refl}
 use lib.ListN.{length}
 use borrow.Author.Needs.{needs}
 use Rattle.lister.proofs.Doing.{fits}
-use Rattle.printer.proofs.rest.Statement.{statement}
-use Rattle.printer.proofs.rest.Tie as tie
+use Rattle.list_out.proofs.rest.Statement.{statement}
+use Rattle.list_out.proofs.rest.Tie as tie
 
 abbrev Inv-loop : tie.InvT-loop
 Inv-loop input area₀ out₀ next₀ turns₀ area out next turns = (length area ≡ length area₀) × (length out ≡ length out₀)

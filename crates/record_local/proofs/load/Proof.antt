@@ -4,10 +4,10 @@ use borrow.Author.Needs.{needs}
 use Rattle.device.specs.Change.{loading}
 use Rattle.device.proofs.Arms.{arms}
 use Rattle.record.specs.Record.{deviceOf}
-use Rattle.local.specs.Local.{loads}
-use Rattle.local.proofs.InPlace.{left-alone, left}
-use Rattle.local.proofs.load.Statement.{statement}
-use Rattle.local.proofs.load.Tie as tie
+use Rattle.record_local.specs.Local.{loads}
+use Rattle.record_local.proofs.InPlace.{left-alone, left}
+use Rattle.record_local.proofs.load.Statement.{statement}
+use Rattle.record_local.proofs.load.Tie as tie
 
 returns : tie.Need-returns
 unfolding loads

@@ -4,10 +4,10 @@ use borrow.Author.Needs.{needs}
 use lib.ListN.{length-set}
 use Rattle.device.proofs.Arms.{arms}
 use Rattle.record.specs.Record.{deviceOf, recordOf}
-use Rattle.local.specs.Local.{wishing}
-use Rattle.local.proofs.InPlace.{service-written}
-use Rattle.local.proofs.wishing.Statement.{statement}
-use Rattle.local.proofs.wishing.Tie as tie
+use Rattle.record_local.specs.Local.{wishing}
+use Rattle.record_local.proofs.InPlace.{service-written}
+use Rattle.record_local.proofs.wishing.Statement.{statement}
+use Rattle.record_local.proofs.wishing.Tie as tie
 
 returns : tie.Need-returns
 unfolding wishing

@@ -2,8 +2,8 @@
 use mathlib.Core.Path.{sym}
 use lib.Seq.{length-take-le}
 use borrow.Author.Needs.{needs}
-use Rattle.printer.proofs.write.Statement.{statement}
-use Rattle.printer.proofs.write.Tie as tie
+use Rattle.list_out.proofs.write.Statement.{statement}
+use Rattle.list_out.proofs.write.Tie as tie
 
 pub write-spec : {M : Type 1} → statement M
 write-spec =
