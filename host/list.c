@@ -16,8 +16,8 @@ static size_t print_loop(char *at, const uint8_t *items, unsigned n)
     size_t length = (size_t)sprintf(at, "loop");
 
     for (unsigned i = 0; i < n; i++)
-        length += (size_t)sprintf(at + length, " %02x%02x", items[PIL_ITEMS_LENGTH(i) + PIL_ITEM_ABILITIES],
-                                  items[PIL_ITEMS_LENGTH(i) + PIL_ITEM_FIXED]);
+        length += (size_t)sprintf(at + length, " %02x%02x", items[PIL_ITEM_AT(i) + PIL_ITEM_ABILITIES],
+                                  items[PIL_ITEM_AT(i) + PIL_ITEM_FIXED]);
     return length + (size_t)sprintf(at + length, "\n");
 }
 

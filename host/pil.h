@@ -1,10 +1,20 @@
 /* The C interface of the loop model: the calls of libpil.a, the numbers they answer, and the layout of the area
-   that a bench lends to them. Every number of this file is fixed by paper 01. */
+   that a bench lends to them. Every number of this file but the version is fixed by paper 01; what devices do with
+   frames is told in docs/RULES.md, and pil_names.h has names for the numbers.
+
+   A call allocates nothing and keeps nothing outside the area that it is lent: a copy of the area's bytes is a copy of
+   the loop, and different areas may be used by different threads at once (one area by one thread at a time). */
 #ifndef PIL_H
 #define PIL_H
 
 #include <stddef.h>
 #include <stdint.h>
+
+/* The version: the first number rises where a bench has to be changed, the second where something is added. */
+#define PIL_VERSION_MAJOR 1
+#define PIL_VERSION_MINOR 0
+#define PIL_VERSION_PATCH 0
+#define PIL_VERSION (PIL_VERSION_MAJOR * 10000 + PIL_VERSION_MINOR * 100 + PIL_VERSION_PATCH)
 
 #ifdef __cplusplus
 extern "C" {
@@ -14,21 +24,23 @@ extern "C" {
 enum {
     PIL_ACCEPTED = 0,   /* no refusal */
     PIL_SHAPE = 1,      /* the area's length is that of no loop, or not that of its byte 0; items of a wrong length */
-    PIL_UNSOUND = 2,    /* the area's contents break a rule; at set-up an item does */
+    PIL_UNSOUND = 2,    /* the area's contents break a rule of "What is sound" below; at set-up an item does */
     PIL_NO_DEVICE = 3,  /* the device number is the number of devices or more */
     PIL_BAD_FRAME = 4,  /* a frame over 2,047; a kind or offset outside the message table */
     PIL_EMPTY = 5,      /* the link to take from holds no frame */
     PIL_FULL = 6,       /* the link to add to holds four frames */
     PIL_NO_ABILITY = 7, /* load without data, status without status, wish without service request */
     PIL_TOO_LONG = 8,   /* a load of more than 32 bytes */
-    PIL_BUSY = 9        /* a load while the device sends data */
+    PIL_BUSY = 9        /* a load while the device is sending data (talker state 2) */
 };
 
-/* Why a drain stopped. */
+/* Why a drain stopped. A refused drain answers 0 here as well: look at its refusal first. */
 enum {
-    PIL_STOP_NO_HOP = 0, /* no device can hop */
+    PIL_STOP_NO_HOP = 0, /* no device can hop: the links before the tail are empty, or the tail holds four frames (take
+                            some, and drain again) */
     PIL_STOP_BUDGET = 1, /* the budget is spent, and a hop is still possible */
-    PIL_STOP_HANDED = 2  /* the last hop handed a byte; the answer names device, byte and end bit */
+    PIL_STOP_HANDED = 2  /* the last hop handed a byte; the answer names device, byte and end bit. The frame has gone on
+                            into the next link all the same */
 };
 
 /* Kinds of frame: the messages of the loop, by their codes. */
@@ -84,7 +96,8 @@ enum {
     PIL_FRAMES = 2048,     /* how many frames there are: 0 to 2,047 */
     PIL_DATA_BITS = 0x0ff, /* data bits D8 to D1 */
     PIL_C1 = 0x100,        /* control bit C1: service asked for, in DAB, END and IDY */
-    PIL_C2 = 0x200         /* control bit C2: the end bit of a data byte */
+    PIL_C2 = 0x200,        /* control bit C2: the end bit of a data byte */
+    PIL_C3 = 0x400         /* control bit C3: 0 in data bytes, DAB and END, and in nothing else */
 };
 
 /* Limits and lengths, in bytes where not said otherwise. */
@@ -106,19 +119,21 @@ enum {
 #define PIL_RECORD_AT(i) (PIL_HEADER_LENGTH + PIL_RECORD_LENGTH * (size_t)(i))
 /* Where link i of a loop of n devices begins. */
 #define PIL_LINK_AT(n, i) (PIL_RECORD_AT(n) + PIL_LINK_LENGTH * (size_t)(i))
-/* The length of n devices' set-up items. */
+/* The length of n devices' set-up items, and where device i's item begins. */
 #define PIL_ITEMS_LENGTH(n) (PIL_ITEM_LENGTH * (size_t)(n))
+#define PIL_ITEM_AT(i) (PIL_ITEM_LENGTH * (size_t)(i))
 
 /* Abilities: bits of an item's and a record's first byte. */
 enum {
-    PIL_ABILITY_LISTEN = 1,       /* takes data bytes as a listener */
-    PIL_ABILITY_DATA = 2,         /* sends data when asked by SDA */
-    PIL_ABILITY_STATUS = 4,       /* sends its status when asked by SST */
-    PIL_ABILITY_ID = 8,           /* sends its device ID when asked by SDI */
-    PIL_ABILITY_ACCESSORY = 16,   /* sends its accessory ID when asked by SAI */
-    PIL_ABILITY_AUTO_ADDRESS = 32, /* takes an address from AAD and gives it up at AAU */
-    PIL_ABILITY_UNADDRESS = 64,   /* is never listener and talker at once by LAD and TAD; needs both abilities */
-    PIL_ABILITY_SERVICE = 128     /* may ask for service; needs status */
+    PIL_ABILITY_LISTEN = 1,        /* takes data bytes as a listener */
+    PIL_ABILITY_DATA = 2,          /* sends data when asked by SDA */
+    PIL_ABILITY_STATUS = 4,        /* sends its status when asked by SST */
+    PIL_ABILITY_ID = 8,            /* sends its device ID when asked by SDI */
+    PIL_ABILITY_ACCESSORY = 16,    /* sends its accessory ID when asked by SAI */
+    PIL_ABILITY_AUTO_ADDRESS = 32, /* takes an address from AAD; at AAU its fixed address is its address again */
+    PIL_ABILITY_UNADDRESS = 64,    /* own LAD ends its talking and own TAD its listening; needs listen, and at least one
+                                      of data, status, ID and accessory */
+    PIL_ABILITY_SERVICE = 128      /* may ask for service; needs status */
 };
 
 /* Offsets in a set-up item. */
@@ -138,25 +153,25 @@ enum {
 
 /* Offsets in a record. */
 enum {
-    PIL_RECORD_ABILITIES = 0,  /* abilities */
-    PIL_RECORD_FIXED = 1,      /* fixed address 0-30, 31 for none */
-    PIL_RECORD_ADDRESS = 2,    /* address now, 0-31 */
-    PIL_RECORD_CONFIGURED = 3, /* 1 if the address was given by AAD */
-    PIL_RECORD_LISTENER = 4,   /* 1 if listener */
-    PIL_RECORD_TALKER = 5,     /* talker state */
-    PIL_RECORD_SERVICE = 6,    /* service state */
-    PIL_RECORD_ZERO = 7,       /* zero byte */
-    PIL_RECORD_NRD = 8,        /* 1 if NRD was seen while sending */
-    PIL_RECORD_STATUS = 9,     /* status byte */
-    PIL_RECORD_ACCESSORY = 10, /* accessory ID */
-    PIL_RECORD_ID_LENGTH = 11, /* length of the device ID, 0-8 */
+    PIL_RECORD_ABILITIES = 0,    /* abilities */
+    PIL_RECORD_FIXED = 1,        /* fixed address 0-30, 31 for none */
+    PIL_RECORD_ADDRESS = 2,      /* address now, 0-31 */
+    PIL_RECORD_CONFIGURED = 3,   /* 1 if the address was given by AAD, else 0 */
+    PIL_RECORD_LISTENER = 4,     /* 1 if listener, else 0 */
+    PIL_RECORD_TALKER = 5,       /* talker state */
+    PIL_RECORD_SERVICE = 6,      /* service state */
+    PIL_RECORD_ZERO = 7,         /* zero byte */
+    PIL_RECORD_NRD = 8,          /* 1 if NRD was seen while sending, else 0 */
+    PIL_RECORD_STATUS = 9,       /* status byte */
+    PIL_RECORD_ACCESSORY = 10,   /* accessory ID */
+    PIL_RECORD_ID_LENGTH = 11,   /* length of the device ID, 0-8 */
     PIL_RECORD_DATA_LENGTH = 12, /* length of the data, 0-32 */
-    PIL_RECORD_SENT = 13,      /* bytes of the data already sent */
-    PIL_RECORD_LAST = 14,      /* last frame sent while sending: two bytes, little-endian */
-    PIL_RECORD_REPLY_SENT = 16, /* bytes of a status or ID reply already sent */
-    PIL_RECORD_ZEROS = 17,     /* seven zero bytes */
-    PIL_RECORD_ID = 24,        /* eight bytes: the device ID, zero past its length */
-    PIL_RECORD_DATA = 32       /* thirty-two bytes: the data, zero past its length */
+    PIL_RECORD_SENT = 13,        /* bytes of the data already sent, a damaged one among them */
+    PIL_RECORD_LAST = 14,        /* last frame sent while sending: two bytes, little-endian */
+    PIL_RECORD_REPLY_SENT = 16,  /* bytes of a status or ID reply already sent */
+    PIL_RECORD_ZEROS = 17,       /* seven zero bytes */
+    PIL_RECORD_ID = 24,          /* eight bytes: the device ID, zero past its length */
+    PIL_RECORD_DATA = 32         /* thirty-two bytes: the data, zero past its length */
 };
 
 /* Offsets in a link. */
@@ -183,6 +198,22 @@ enum {
     PIL_SERVICE_POLLED = 2  /* has sent its status since it asked */
 };
 
+/* What is sound. An area whose length and byte 0 fit is refused with 2 where
+   - a value is outside the range given for it above, a zero byte or a byte past a length is not zero, or an unused
+     place of a link is not zero;
+   - a link holds a frame over 2,047, or a last frame is over 1,023;
+   - service request is there without status; unaddress without listen, or with none of data, status, ID, accessory;
+   - a device is not configured and its address is not the fixed one; or is configured without auto address, or at 31;
+   - a listener cannot listen, a device that asks or was polled cannot ask for service, one that sends data, status,
+     ID or accessory ID cannot send that, or talker state 1 stands with none of data, status, ID, accessory;
+   - there is data without the ability for it; more is sent than there is; or data is being sent and none is sent yet;
+   - the reply bytes sent are not 1 while status or accessory ID is sent, not 1 to the ID's length while the ID is sent,
+     or not 0 otherwise;
+   - NRD is noted, or a last frame kept, outside the talker states 2 to 5.
+   So damage gives 2, but damage to byte 0 gives 1: no other count of devices fits the area's length. A set-up item
+   gives 2 where the record that it would become is not sound: a fixed address over 31, an ID length over 8, an ID that is
+   not zero past its length, service request or unaddress without what they need. */
+
 /* What a hop answers. */
 struct pil_hopped {
     uint16_t frame;  /* the frame sent */
@@ -202,7 +233,7 @@ struct pil_taken {
 struct pil_drained {
     uint32_t hops;   /* hops made */
     uint8_t refusal; /* 0 if accepted */
-    uint8_t reason;  /* why it stopped */
+    uint8_t reason;  /* why it stopped; 0 if refused */
     uint8_t device;  /* for PIL_STOP_HANDED the device, else 0 */
     uint8_t byte;    /* for PIL_STOP_HANDED the byte handed, else 0 */
     uint8_t end;     /* for PIL_STOP_HANDED its end bit, else 0 */
@@ -220,28 +251,38 @@ struct pil_encoded {
     uint8_t refusal; /* 0 if accepted */
 };
 
-/* The calls. A uint8_t answer is the refusal. Pointers are not null, at length 0 either; items and bytes to load lie
-   outside the area. Any number may be passed for a number. */
+/* The calls. A uint8_t answer is the refusal; in a struct look at the refusal first, since the frame 0 that a refused
+   call answers would be a data byte. Pointers are not null, at length 0 either; items and bytes to load lie outside the
+   area. Any number may be passed for a uint64_t. Each call judges the whole area before it does anything: a bench may
+   read it between calls, and write to it at its own risk of refusal 2. */
 
-/* Writes the power-on loop of the items' devices into the area, whatever that held. Gives 1, 2. */
+/* Writes the power-on loop of the items' devices into the area, whatever that held: as many devices as the area has
+   room for, so items of any other count give 1. Gives 1, 2. */
 uint8_t pil_set_up(uint8_t *area, size_t area_len, const uint8_t *items, size_t items_len);
-/* Puts a frame into link 0. Gives 1, 2, 4, 6. */
+/* Puts a frame of any kind into link 0, which feeds device 0. Gives 1, 2, 4, 6. */
 uint8_t pil_put(uint8_t *area, size_t area_len, uint64_t frame);
-/* Lets the device take its oldest frame and send one. Gives 1, 2, 3, 5, 6. */
+/* Lets the device take its oldest frame and send one into the next link. Gives 1, 2, 3, 5, 6. */
 struct pil_hopped pil_hop(uint8_t *area, size_t area_len, uint64_t device);
 /* Takes the oldest frame out of the tail. Gives 1, 2, 5. */
 struct pil_taken pil_take(uint8_t *area, size_t area_len);
-/* Gives the device new data to send, none of it sent. Gives 1, 2, 3, 7, 8, 9. */
+/* Gives the device new data to send, none of it sent yet; with no bytes the device has nothing to send. Refused while
+   it sends data: its talk has to end first (by ETO or ETE, UNT, another's TAD or IFC). The pointer is not null for no
+   bytes either. Gives 1, 2, 3, 7, 8, 9. */
 uint8_t pil_load(uint8_t *area, size_t area_len, uint64_t device, const uint8_t *bytes, size_t bytes_len);
-/* Sets the device's status byte. Gives 1, 2, 3, 7. */
+/* Sets the device's status byte. A wish for service sets no bit of it: that is the bench's. Gives 1, 2, 3, 7. */
 uint8_t pil_status(uint8_t *area, size_t area_len, uint64_t device, uint8_t status);
-/* Has the device ask for service (any wish but 0) or no longer (0). Gives 1, 2, 3, 7. */
+/* Has the device ask for service (any wish but 0), or no longer (0). A device that asks already, or was polled since it
+   asked, stays as it is: to ask a second time after a poll, wish 0 and then 1. Gives 1, 2, 3, 7. */
 uint8_t pil_wish(uint8_t *area, size_t area_len, uint64_t device, uint64_t wish);
-/* Hops the highest-numbered device that can, again and again, at most budget times. Gives 1, 2. */
+/* Hops the highest-numbered device that can hop, again and again, at most budget times. A hop that hands a byte ends it
+   at once, with PIL_STOP_HANDED even if the budget is spent; otherwise, before each hop, PIL_STOP_NO_HOP if none is
+   possible, else PIL_STOP_BUDGET if the budget is spent. So budget 0 makes no hop and tells whether one is possible;
+   2n(n + 1) hops, 480 for fifteen devices, are the most that a loop of n devices can make without a put.
+   The frames that devices send are not answered: they lie in the links, and come out at the tail. Gives 1, 2. */
 struct pil_drained pil_drain(uint8_t *area, size_t area_len, uint64_t budget);
-/* The kind of a frame. Gives 4. */
+/* The kind of a frame; 0 where it is no message. Gives 4. */
 struct pil_decoded pil_decode(uint64_t frame);
-/* The frame of a kind 1-42 at an offset from its first code. Gives 4. */
+/* The frame of a kind 1-42 at an offset from its first code. Gives 4, as for LAD 31: no message has address 31. */
 struct pil_encoded pil_encode(uint64_t kind, uint64_t offset);
 
 #ifdef __cplusplus

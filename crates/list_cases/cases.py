@@ -1,13 +1,15 @@
 #!/usr/bin/env python3
-"""Writes this program's cases: scripts into data/, their names into args, the listings that 01 asks for into stdout.
+"""Writes this program's cases: scripts into data/, their names into args, the listings that 01 asks for into stdout,
+and into words what the lister says of each script on standard error.
 
-The listings come from a model of the loop that is written here from the rules alone.
+The listings and the words come from a model of the loop that is written here from the rules alone.
 """
 import os
 import random
 
 LISTEN, DATA, STATUS, DEVICE_ID, ACCESSORY, AUTO, UNADDRESS, SERVICE = (1 << k for k in range(8))
 TALKS = DATA | STATUS | DEVICE_ID | ACCESSORY
+MOST_DEVICES = 15
 
 
 class Device:
@@ -103,7 +105,7 @@ def digits(text, n):
 def set_up(line):
     """The devices of line 1, or None."""
     fields = line.split(b' ')
-    if fields[0] != b'loop' or not all(digits(f, 4) for f in fields[1:]) or not 1 <= len(fields) - 1 <= 15:
+    if fields[0] != b'loop' or not all(digits(f, 4) for f in fields[1:]) or not 1 <= len(fields) - 1 <= MOST_DEVICES:
         return None
     pairs = [(int(f[:2], 16), int(f[2:], 16)) for f in fields[1:]]
     return [Device(*p) for p in pairs] if all(allowed(*p) for p in pairs) else None
@@ -131,6 +133,61 @@ def listing(script):
                 out.append('hand %d %02x %d\n' % (i, *handed))
         out.append('%03x %03x\n' % (frame, now))
     return ''.join(out)
+
+
+def device_words(group):
+    """The first thing that is wrong with a device's bytes, or ''."""
+    if group[:1] != b' ' or not digits(group[1:], 4):
+        return 'a space and four lower-case hexadecimal digits, abilities and fixed address'
+    abilities, fixed = int(group[1:3], 16), int(group[3:], 16)
+    if fixed > 31:
+        return 'fixed address %02x is over 1f' % fixed
+    if abilities & SERVICE and not abilities & STATUS:
+        return 'abilities %02x need status' % abilities
+    if not allowed(abilities, fixed):
+        return 'abilities %02x need listen and one of data, status, device ID, accessory ID' % abilities
+    return ''
+
+
+def loop_words(line):
+    """The first thing that is wrong with line 1, or ''."""
+    if line[:4] != b'loop':
+        return 'the word loop comes first, then a space and four digits for each device'
+    groups = [line[at:at + 5] for at in range(4, len(line), 5)]
+    for i, group in enumerate(groups):
+        if fault := device_words(group):
+            return 'device %d: %s' % (i, fault)
+    if not groups:
+        return 'no device: a loop has 1 to %d' % MOST_DEVICES
+    if len(groups) > MOST_DEVICES:
+        return '%d devices: a loop has 1 to %d' % (len(groups), MOST_DEVICES)
+    return ''
+
+
+def line_words(line, number):
+    """What is wrong with a line, or ''."""
+    for last, name in ((b'\r', 'carriage return'), (b' ', 'space')):
+        if line.endswith(last):
+            return '%s at the end of line %d\n' % (name, number)
+    if number == 1:
+        fault = loop_words(line)
+    elif digits(line, 3) and int(line, 16) <= 0x7ff:
+        fault = ''
+    else:
+        fault = 'a frame is three lower-case hexadecimal digits, at most 7ff'
+    return fault and 'line %d: %s\n' % (number, fault)
+
+
+def words(script):
+    """What the lister says on standard error: the first thing that is wrong, or ''."""
+    if len(script) > 60000:
+        return 'the script is longer than 60000 bytes\n'
+    if not script:
+        return 'line 1: the script is empty\n'
+    lines = script.split(b'\n')
+    if lines[-1] == b'':
+        lines.pop()
+    return next(filter(None, (line_words(line, number) for number, line in enumerate(lines, 1))), '')
 
 
 def frames(*numbers):
@@ -188,6 +245,37 @@ CASES = {
     'ids_and_status': b'loop 1f05 2f1f\n' + frames(
         0x445, 0x563, 0x000, 0x560, 0x561, 0x542, 0x000, 0x562, 0x561, 0x0ff, 0x45f),
     'many_frames': b'loop ff1f 2101 5d02 3f1f 011f\n' + any_frames(1, 300),
+    'seventeen_devices': b'loop' + b' 011f' * 17 + b'\n',
+    'upper_sixteenth': b'loop' + b' 011f' * 15 + b' 011F\n',
+    'sixteen_and_fixed_20': b'loop 0120' + b' 011f' * 15 + b'\n',
+    'word_cut': b'loo',
+    'wrong_behind_right': b'loop 211f 211g 2120\n',
+    'rest_of_one': b'loop 211f 011f0\n',
+    'rest_of_four': b'loop 211f 011f 01f\n',
+    'rest_alone': b'loop 2\n',
+    'item_before_form': b'loop 2120 211\n',
+    'fixed_20_behind_right': b'loop 211f 011f 0120\n',
+    'fixed_ff_last': b'loop' + b' 011f' * 14 + b' 01ff\n',
+    'fixed_before_abilities': b'loop 211f 8020\n',
+    'status_before_listen': b'loop 211f c01f\n',
+    'first_of_two': b'loop 211f 401f 0120\n',
+    'service_and_all_but_status': b'loop fb1f\n',
+    'unaddress_and_listen': b'loop 611f\n',
+    'unaddress_and_data': b'loop 421f\n',
+    'unaddress_and_accessory': b'loop 211f 701f\n',
+    'unaddress_right': b'loop 431f 451f 491f 511f\n600\n',
+    'service_right': b'loop 841f\n600\n',
+    'return_alone': b'\r\n',
+    'space_alone': b' \n600\n',
+    'return_and_upper': b'LOOP\r\n',
+    'space_and_return': b'loop 211f \r\n',
+    'return_behind': ONE + frames(0x600, 0x601) + b'602\r\n',
+    'space_behind_frame': ONE + frames(0x600) + b'601 \n',
+    'space_line': ONE + b' \n',
+    'return_line': ONE + b'600\n\r\n',
+    'return_at_end': ONE + b'600\r',
+    'line_10': ONE + frames(*range(0x600, 0x608)) + b'xyz\n',
+    'line_100': ONE + frames(*range(0x600, 0x662)) + b'602\r\n',
 }
 
 
@@ -201,6 +289,8 @@ def main():
         f.write(''.join(name + '\n' for name in CASES))
     with open(os.path.join(here, 'stdout'), 'w') as f:
         f.write(''.join('-- %s\n%s' % (name, listing(script)) for name, script in CASES.items()))
+    with open(os.path.join(here, 'words'), 'w') as f:
+        f.write(''.join('-- %s\n%s' % (name, words(script)) for name, script in CASES.items()))
 
 
 main()

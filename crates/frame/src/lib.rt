@@ -182,10 +182,10 @@ pub fn number(kind: Kind) -> u8
 }
 
 // Kinds are the numbers below this.
-const COUNT: usize = 43;
+pub const KINDS: usize = 43;
 
 // The first code of each kind, from kind 0 on.
-const FIRST: [u16; COUNT] = [
+const FIRST: [u16; KINDS] = [
     0,
     0x000, // DAB
     0x200, // END
@@ -232,7 +232,7 @@ const FIRST: [u16; COUNT] = [
 ];
 
 // How many codes each kind has.
-const CODES: [u16; COUNT] = [
+const CODES: [u16; KINDS] = [
     0,
     512, // DAB
     512, // END
@@ -296,7 +296,7 @@ fn codes(kind: usize) -> u16
 pub fn encode(kind: u64, offset: u64) -> Encoded
     ensures { λ r. ⌜ encodedAs r ≡ encodeOf kind offset ⌝ }
 {
-    if COUNT as u64 <= kind {
+    if KINDS as u64 <= kind {
         return Encoded::BadFrame;
     }
     let k = kind as usize;

@@ -1,5 +1,8 @@
-// The listing of a script, written to standard output chunk by chunk.
+// The listing of a script, written to standard output chunk by chunk, and behind a `bad` or `long` the words for it to
+// standard error.
 use libc::STDOUT_FILENO;
+use lister::Chunk;
+use lister::LONGEST;
 use lister::Next;
 ghost use Prim.Native.Nat.{_≤_};
 ghost use lib.ListN.{length};
@@ -9,6 +12,16 @@ fn write(out: &[u8], written: usize) -> bool
     requires { ⌜ written ≤ length (now out) ⌝ }
 {
     io::write_all(STDOUT_FILENO, &out[..written])
+}
+
+// A chunk of a later line that is the last and has a text says `bad`.
+fn explain(input: &[u8], at: usize, number: usize, chunk: Chunk) {
+    let next = chunk.next;
+    if let Next::End = next {
+        if chunk.written > 0 {
+            wrong::later(input, at, number);
+        }
+    }
 }
 
 // The chunks behind the first: no more than the input has bytes.
@@ -23,6 +36,7 @@ fn rest(input: &[u8], first: Next, area: &mut [u8], out: &mut [u8]) {
         if !write(out, chunk.written) {
             return;
         }
+        explain(input, at, number, chunk);
         next = chunk.next;
         turns -= 1;
     }
@@ -32,8 +46,14 @@ pub fn print(input: &[u8]) {
     let mut area = io::buffer();
     let mut out = io::buffer();
     let chunk = lister::start(input, &mut area, &mut out);
-    if write(&out, chunk.written) {
-        let next = chunk.next;
-        rest(input, next, &mut area, &mut out);
+    if !write(&out, chunk.written) {
+        return;
     }
+    // The first chunk has no text but `bad` or `long`.
+    if chunk.written > 0 {
+        wrong::first(input, LONGEST);
+        return;
+    }
+    let next = chunk.next;
+    rest(input, next, &mut area, &mut out);
 }

@@ -29,10 +29,10 @@ pub enum LoopLine {
 // Bytes of line 1 before the devices, and of each device.
 pub const WORD_SIZE: usize = 4;
 
-const GROUP_SIZE: usize = 5;
+pub const GROUP_SIZE: usize = 5;
 
 // The digit of a character; 16 where it is none.
-fn digit(b: u8) -> u8
+pub fn digit(b: u8) -> u8
     ensures { λ r. ⌜ r ≡ digitOf b ⌝ }
 {
     if (b'0' <= b) & (b <= b'9') {
@@ -63,7 +63,7 @@ pub fn frame_in(line: &[u8]) -> FrameLine
 }
 
 // A line begins with a word.
-fn begins(line: &[u8], word: &[u8]) -> bool
+pub fn begins(line: &[u8], word: &[u8]) -> bool
     ensures { λ r. ⌜ r ≡ Words·begins (now (word .entry)) (now (line .entry)) ⌝ }
 {
     let mut i = 0;
@@ -80,7 +80,7 @@ fn begins(line: &[u8], word: &[u8]) -> bool
 }
 
 // A device's bytes are a space and four digits.
-fn group_right(g: &[u8]) -> bool
+pub fn group_right(g: &[u8]) -> bool
     requires { ⌜ length (now g) ≡ groupSize ⌝ }
     ensures { λ r. ⌜ r ≡ groupRight (now (g .entry)) ⌝ }
 {

@@ -1,0 +1,77 @@
+// Prints a C header with names as arrays by number: the mnemonics of the message table's kinds, and words for refusals,
+// stop reasons, talker states and service states.
+use frame::Encoded;
+use frame::KINDS;
+use print::decimal;
+use print::text;
+
+// What the arrays of the header are of.
+enum Names {
+    Kinds,
+    Refusals,
+    Stops,
+    Talkers,
+    Services,
+}
+
+fn main() {
+    text(b"#ifndef PIL_NAMES_H\n");
+    text(b"#define PIL_NAMES_H\n");
+    text(b"\n");
+    text(b"/* Names for the numbers of pil.h: each array is indexed by such a number. */\n");
+    text(b"\n/* Mnemonics of kinds, PIL_KIND_NONE to PIL_KIND_IDY. */\n");
+    names_of(Names::Kinds, b"kind_names", KINDS as u64);
+    text(b"\n/* Refusals, PIL_ACCEPTED to PIL_BUSY. */\n");
+    names_of(Names::Refusals, b"refusal_texts", 10);
+    text(b"\n/* Why a drain stopped, PIL_STOP_NO_HOP to PIL_STOP_HANDED. */\n");
+    names_of(Names::Stops, b"stop_texts", 3);
+    text(b"\n/* Talker states, PIL_TALKER_IDLE to PIL_TALKER_ACCESSORY. */\n");
+    names_of(Names::Talkers, b"talker_texts", 6);
+    text(b"\n/* Service states, PIL_SERVICE_NONE to PIL_SERVICE_POLLED. */\n");
+    names_of(Names::Services, b"service_texts", 3);
+    text(b"\n#endif\n");
+}
+
+// An array with its first names.
+fn names_of(of: Names, name: &[u8], count: u64) {
+    text(b"static const char *const pil_");
+    text(name);
+    text(b"[");
+    decimal(count);
+    text(b"] = {\n");
+    entries(of, count);
+    text(b"};\n");
+}
+
+fn entries(of: Names, count: u64) {
+    let mut at: u64 = 0;
+    while at < count {
+        entry(of, at);
+        at += 1;
+    }
+}
+
+fn entry(of: Names, number: u64) {
+    text(b"    \"");
+    name(of, number);
+    text(b"\",\n");
+}
+
+fn name(of: Names, number: u64) {
+    match of {
+        Names::Kinds => kind(number),
+        Names::Refusals => names::refusal(number),
+        Names::Stops => names::stop(number),
+        Names::Talkers => names::talker(number),
+        Names::Services => names::service(number),
+    }
+}
+
+// The mnemonic of a kind, by the frame that the encoder gives for it; kind 0 has no frame.
+fn kind(number: u64) {
+    let encoded = frame::encode(number, 0);
+    match encoded {
+        Encoded::Frame(frame) => names::kind(frame::kind_of(frame)),
+        Encoded::BadFrame => names::kind(frame::Kind::Unused),
+    }
+}
