@@ -1,21 +1,33 @@
-# make list      builds the lister and runs it on SCRIPT
-# make gate      the gate: .ci/run
+# What a user of the repository calls; `make help` tells. The tests of the C side are in host/Makefile.
+include host/machine.mk
+
 SCRIPT = scripts/meter.txt
+PREFIX = /usr/local
+DESTDIR =
+# The shell reads these itself, so that a name may have spaces.
+export SCRIPT PREFIX DESTDIR
 
-ifeq ($(shell uname -m),x86_64)
-RUN =
-else
-RUN = qemu-x86_64 -L /usr/x86_64-linux-gnu
-endif
+.PHONY: help list lib install uninstall gate
+help:
+	@echo "make list [SCRIPT=file]                run a script of frames and list what the loop does"
+	@echo "make lib                               build target/staticlib/libpil.a, for benches in C"
+	@echo "make install [PREFIX=..] [DESTDIR=..]  install libpil.a, its headers and pil.pc ($(PREFIX))"
+	@echo "make uninstall [PREFIX=..] [DESTDIR=..]"
+	@echo "make gate                              prove everything from nothing and run every test"
+	@echo "make -C host help                      the tests of the C side, one by one"
 
-.PHONY: list gate
-list: target/bin/pil_list
-	@$(RUN) target/bin/pil_list < $(SCRIPT)
+list:
+	@host/tools.sh run
+	@$(MAKE) -s -C host lister
+	@host/list.sh target/bin/pil_list "$$SCRIPT" $(RUN)
 
-target/bin/pil_list: $(shell find crates -name '*.rt' -o -name '*.antt')
-	@host/tools.sh
-	@rt check pil_list > target.log 2>&1 || { cat target.log; rm -f target.log; exit 1; }
-	@rm -f target.log
+lib:
+	@$(MAKE) -s -C host lib
+
+install: lib
+	@host/install.sh install "$$PREFIX" "$$DESTDIR"
+uninstall:
+	@host/install.sh uninstall "$$PREFIX" "$$DESTDIR"
 
 gate:
 	bash .ci/run

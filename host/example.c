@@ -35,7 +35,7 @@ static unsigned right_round(unsigned frame)
     return taken.frame;
 }
 
-static unsigned send(unsigned kind, unsigned number)
+static unsigned send_frame(unsigned kind, unsigned number)
 {
     return right_round(pil_encode(kind, number).frame);
 }
@@ -58,20 +58,20 @@ static unsigned most_talkers(void)
     for (unsigned address = 0; address < PIL_NO_ADDRESS; address++) {
         unsigned talkers = 0;
 
-        send(PIL_KIND_TAD, address);
+        send_frame(PIL_KIND_TAD, address);
         for (unsigned i = 0; i < METERS; i++)
             talkers += (unsigned)talks(i);
         if (talkers > most)
             most = talkers;
     }
-    send(PIL_KIND_UNT, 0);
+    send_frame(PIL_KIND_UNT, 0);
     return most;
 }
 
 /* AAD goes out with the first address; each meter that takes one sends it on with the next free one. */
 static void give_addresses(unsigned first)
 {
-    unsigned out = send(PIL_KIND_AAD, first);
+    unsigned out = send_frame(PIL_KIND_AAD, first);
 
     printf("AAD %u: addresses", first);
     for (unsigned i = 0; i < METERS; i++)
@@ -85,17 +85,17 @@ static void read_address(unsigned address)
 {
     unsigned frame;
 
-    send(PIL_KIND_TAD, address);
+    send_frame(PIL_KIND_TAD, address);
     printf("address %u: talker", address);
     for (unsigned i = 0; i < METERS; i++)
         if (talks(i))
             printf(" %u", i);
     printf(", reading ");
     /* Each byte goes back to the talker, which compares it and sends the next. */
-    for (frame = send(PIL_KIND_SDA, 0); pil_decode(frame).kind <= PIL_KIND_END; frame = right_round(frame))
+    for (frame = send_frame(PIL_KIND_SDA, 0); (frame & PIL_C3) == 0; frame = right_round(frame))
         putchar((int)(frame & PIL_DATA_BITS));
     printf(", end %03x\n", frame);
-    send(PIL_KIND_UNT, 0);
+    send_frame(PIL_KIND_UNT, 0);
 }
 
 /* Exchanges a device while the loop lives on. A set-up of the loop would switch every meter off and on, so the new
@@ -115,14 +115,14 @@ static void three_meters(void)
     uint8_t items[PIL_ITEMS_LENGTH(METERS)] = {0};
 
     for (unsigned i = 0; i < METERS; i++) {
-        items[PIL_ITEMS_LENGTH(i) + PIL_ITEM_ABILITIES] = METER;
-        items[PIL_ITEMS_LENGTH(i) + PIL_ITEM_FIXED] = PIL_NO_ADDRESS;
+        items[PIL_ITEM_AT(i) + PIL_ITEM_ABILITIES] = METER;
+        items[PIL_ITEM_AT(i) + PIL_ITEM_FIXED] = PIL_NO_ADDRESS;
     }
     accepted(pil_set_up(loop, sizeof loop, items, sizeof items), "set-up");
     load(0, "1.503");
     load(1, "2.718");
     load(2, "9.807");
-    send(PIL_KIND_AAU, 0);
+    send_frame(PIL_KIND_AAU, 0);
     give_addresses(1);
     for (unsigned address = 1; address <= METERS; address++)
         read_address(address);
@@ -141,7 +141,7 @@ static void one_exchanged(void)
     read_address(4);
     read_address(3);
     /* To count from 1 again, AAU first: all give up their addresses, and all take new ones. */
-    send(PIL_KIND_AAU, 0);
+    send_frame(PIL_KIND_AAU, 0);
     give_addresses(1);
 }
 
@@ -152,7 +152,7 @@ static void without_auto_address(void)
     exchange(0, OLD_METER, 2);
     load(0, "0.000");
     load(2, "9.805");
-    send(PIL_KIND_AAU, 0);
+    send_frame(PIL_KIND_AAU, 0);
     give_addresses(1);
     read_address(2);
 }

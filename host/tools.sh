@@ -1,25 +1,50 @@
 #!/bin/sh
-# Sees to the compiler and the emulator that the host programs need: installs the missing packages when run as root,
-# and otherwise says which they are. Use: tools.sh [emulator], the word where x86-64 machines need the emulator too.
+# Sees to the commands that the work here needs: installs the missing packages when run as root, and otherwise says
+# which they are. Use: tools.sh WORD.., the words being
+#   rt        the prover, which cannot be installed from here    compile   a C compiler for x86-64, and its C library
+#   run       what runs an x86-64 program on this machine        c++       the same for C++
+#   emulator  an emulator, on x86-64 machines too                NAME      a command that a package of its name has
+missing= packages=
+
+need() { # COMMAND-OR-FILE PACKAGE..
+    if ! command -v "$1" > /dev/null && [ ! -e "$1" ]; then
+        missing="$missing $1"
+        shift
+        packages="$packages $*"
+    fi
+}
+
 if [ "$(uname -m)" = x86_64 ]; then
-    commands="gcc ${1:+qemu-x86_64}"
-    packages="gcc libc6-dev ${1:+qemu-user}"
-    libc=/usr/lib/x86_64-linux-gnu/libc.a
+    native=yes prefix= cross= libc=/usr/lib/x86_64-linux-gnu/libc.a libc_dev=libc6-dev
 else
-    commands="x86_64-linux-gnu-gcc qemu-x86_64"
-    packages="gcc-x86-64-linux-gnu libc6-dev-amd64-cross qemu-user"
-    libc=/usr/x86_64-linux-gnu/lib/libc.a
+    native= prefix=x86_64-linux-gnu- cross=-x86-64-linux-gnu
+    libc=/usr/x86_64-linux-gnu/lib/libc.a libc_dev=libc6-dev-amd64-cross
 fi
-missing=
-for command in $commands; do
-    command -v "$command" > /dev/null || missing="$missing $command"
+for word in "$@"; do
+    case $word in
+    rt)
+        if ! command -v rt > /dev/null; then
+            echo "rt is not on the PATH. It is the command of the Rattle kit, which proves and compiles this" >&2
+            echo "repository; nothing here is built without it (README, \"What you need\")." >&2
+            exit 1
+        fi ;;
+    compile) need "${prefix}gcc" "gcc$cross" && need "$libc" "$libc_dev" ;;
+    c++) need "${prefix}g++" "g++$cross" ;;
+    emulator) need qemu-x86_64 qemu-user ;;
+    run)
+        if [ -z "$native" ]; then
+            need qemu-x86_64 qemu-user
+            need /usr/x86_64-linux-gnu/lib/ld-linux-x86-64.so.2 libc6-amd64-cross
+        fi ;;
+    *) need "$word" "$word" ;;
+    esac
 done
-[ -e "$libc" ] || missing="$missing $libc"
 [ -z "$missing" ] && exit 0
 echo "missing:$missing"
 if [ "$(id -u)" -ne 0 ] || ! command -v apt-get > /dev/null; then
-    echo "install these packages: $packages" >&2
+    echo "install these packages:$packages" >&2
     exit 1
 fi
-echo "installing: $packages"
-apt-get -qq update && DEBIAN_FRONTEND=noninteractive apt-get -qq install -y --no-install-recommends $packages
+echo "installing:$packages"
+export DEBIAN_FRONTEND=noninteractive
+apt-get -qq update && apt-get -qq install -y --no-install-recommends $packages > /dev/null

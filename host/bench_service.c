@@ -1,0 +1,79 @@
+/* One of three devices rings for service. To learn here: C1 on an IDY tells that some device asks, a serial poll finds
+   which one, and a device that was polled asks again only after wish 0 and then wish 1. */
+#include "pil.h"
+#include "pil_names.h"
+#include <stdio.h>
+#include <stdlib.h>
+
+enum { DEVICES = 3, ASKER = 1, FIRST_ADDRESS = 1, STATUS_ASKED = 0x40 };
+static uint8_t loop[PIL_AREA_LENGTH(DEVICES)];
+
+static void accepted(uint8_t refusal, const char *what)
+{
+    if (refusal == PIL_ACCEPTED)
+        return;
+    fprintf(stderr, "%s: refused, %s\n", what, pil_refusal_texts[refusal]);
+    exit(1);
+}
+
+/* Sends a message right round. No device listens, so no drain stops before the frame is at the tail. */
+static unsigned send_frame(unsigned kind, unsigned number)
+{
+    struct pil_encoded in = pil_encode(kind, number);
+    struct pil_taken out;
+
+    accepted(in.refusal, "encode");
+    accepted(pil_put(loop, sizeof loop, in.frame), "put");
+    accepted(pil_drain(loop, sizeof loop, DEVICES).refusal, "drain");
+    out = pil_take(loop, sizeof loop);
+    accepted(out.refusal, "take");
+    return out.frame;
+}
+
+static void show(const char *when)
+{
+    const char *service = pil_service_texts[loop[PIL_RECORD_AT(ASKER) + PIL_RECORD_SERVICE]];
+
+    printf("%s: device %d %s, IDY %03x -> %03x\n", when, ASKER, service, pil_encode(PIL_KIND_IDY, 0).frame,
+           send_frame(PIL_KIND_IDY, 0));
+}
+
+/* Asks each device for its status. A bit of the status byte tells who asked; C1 on it does not, since any device that
+   asks sets it on a byte that goes by (on that of address 1 here). */
+static void serial_poll(void)
+{
+    for (unsigned address = FIRST_ADDRESS; address < FIRST_ADDRESS + DEVICES; address++) {
+        send_frame(PIL_KIND_TAD, address);
+        unsigned status = send_frame(PIL_KIND_SST, 0);
+        unsigned end = send_frame(PIL_KIND_DAB, status); /* goes back to its talker, which ends the reply */
+        printf("poll of address %u: SST -> %03x, then %s%s\n", address, status, pil_kind_names[pil_decode(end).kind],
+               status & STATUS_ASKED ? ": asked for service" : "");
+    }
+    show("after the poll");
+}
+
+static void wish(unsigned yes, const char *when)
+{
+    accepted(pil_wish(loop, sizeof loop, ASKER, yes), "wish");
+    show(when);
+}
+
+int main(void)
+{
+    uint8_t items[PIL_ITEMS_LENGTH(DEVICES)] = {0};
+
+    for (unsigned i = 0; i < DEVICES; i++) {
+        items[PIL_ITEM_AT(i) + PIL_ITEM_ABILITIES] = PIL_ABILITY_STATUS | PIL_ABILITY_SERVICE;
+        items[PIL_ITEM_AT(i) + PIL_ITEM_FIXED] = (uint8_t)(FIRST_ADDRESS + i);
+    }
+    accepted(pil_set_up(loop, sizeof loop, items, sizeof items), "set-up");
+    accepted(pil_status(loop, sizeof loop, ASKER, STATUS_ASKED | 0x02), "status"); /* a wish does not set that bit */
+    show("before any wish");
+    wish(1, "wish 1");
+    serial_poll();
+    wish(1, "wish 1 alone");
+    wish(0, "wish 0");
+    wish(1, "wish 1 after it");
+    serial_poll();
+    return 0;
+}
