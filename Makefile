@@ -2,9 +2,9 @@
 include host/machine.mk
 
 SCRIPT = scripts/meter.txt
-PREFIX = /usr/local
-DESTDIR =
-# The shell reads these itself, so that a name may have spaces.
+PREFIX ?= /usr/local
+DESTDIR ?=
+# The shell reads these itself, so that a script's name may have spaces.
 export SCRIPT PREFIX DESTDIR
 
 .PHONY: help list lib install uninstall gate

@@ -8,7 +8,8 @@
 
 enum { METER, PRINTER, DEVICES, FIRST_ADDRESS = 1, BUDGET = 1 };
 static uint8_t loop[PIL_AREA_LENGTH(DEVICES)];
-static char handed[DEVICES][PIL_MOST_DATA + 1]; /* what each device was handed, as text */
+static char handed[DEVICES][PIL_MOST_DATA + 1]; /* what each device was handed, as text, and how much that is */
+static unsigned lengths[DEVICES];
 static unsigned stops[PIL_STOP_HANDED + 1];     /* how many drains stopped for each reason */
 
 static void accepted(uint8_t refusal, const char *what)
@@ -32,10 +33,10 @@ static unsigned right_round(unsigned frame)
         stops[drained.reason]++;
         switch (drained.reason) {
         case PIL_STOP_HANDED: /* keep the byte, and go on: its frame has to reach the tail as well */
-            handed[drained.device][strlen(handed[drained.device])] = (char)drained.byte;
+            if (lengths[drained.device] < PIL_MOST_DATA)
+                handed[drained.device][lengths[drained.device]++] = (char)drained.byte;
             break;
         case PIL_STOP_BUDGET: /* still under way: here a bench has time for other work */
-            break;
         case PIL_STOP_NO_HOP: /* the frame waits at the tail */
             break;
         }

@@ -16,26 +16,26 @@ static void accepted(uint8_t refusal, const char *what)
     exit(1);
 }
 
-/* Sends a message right round. No device listens, so no drain stops before the frame is at the tail. */
-static unsigned send_frame(unsigned kind, unsigned number)
+/* Sends a frame right round. No device listens, so no drain stops before the frame is at the tail. */
+static unsigned right_round(unsigned frame)
 {
-    struct pil_encoded in = pil_encode(kind, number);
-    struct pil_taken out;
-
-    accepted(in.refusal, "encode");
-    accepted(pil_put(loop, sizeof loop, in.frame), "put");
+    accepted(pil_put(loop, sizeof loop, frame), "put");
     accepted(pil_drain(loop, sizeof loop, DEVICES).refusal, "drain");
-    out = pil_take(loop, sizeof loop);
+    struct pil_taken out = pil_take(loop, sizeof loop);
     accepted(out.refusal, "take");
     return out.frame;
+}
+
+static unsigned send_frame(unsigned kind, unsigned number)
+{
+    accepted(pil_encode(kind, number).refusal, "encode");
+    return right_round(pil_encode(kind, number).frame);
 }
 
 static void show(const char *when)
 {
     const char *service = pil_service_texts[loop[PIL_RECORD_AT(ASKER) + PIL_RECORD_SERVICE]];
-
-    printf("%s: device %d %s, IDY %03x -> %03x\n", when, ASKER, service, pil_encode(PIL_KIND_IDY, 0).frame,
-           send_frame(PIL_KIND_IDY, 0));
+    printf("%s: device %d %s, IDY 600 -> %03x\n", when, ASKER, service, send_frame(PIL_KIND_IDY, 0));
 }
 
 /* Asks each device for its status. A bit of the status byte tells who asked; C1 on it does not, since any device that
@@ -45,7 +45,7 @@ static void serial_poll(void)
     for (unsigned address = FIRST_ADDRESS; address < FIRST_ADDRESS + DEVICES; address++) {
         send_frame(PIL_KIND_TAD, address);
         unsigned status = send_frame(PIL_KIND_SST, 0);
-        unsigned end = send_frame(PIL_KIND_DAB, status); /* goes back to its talker, which ends the reply */
+        unsigned end = right_round(status); /* goes back to its talker, which ends the reply */
         printf("poll of address %u: SST -> %03x, then %s%s\n", address, status, pil_kind_names[pil_decode(end).kind],
                status & STATUS_ASKED ? ": asked for service" : "");
     }

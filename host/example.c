@@ -1,6 +1,7 @@
 /* A bench script: the exchanged meter. Three meters are given addresses and read, one is exchanged on the live loop,
    and the address frame goes round again. At the end a meter without auto address shows what that ability is for. */
 #include "pil.h"
+#include "pil_names.h"
 
 #include <stdio.h>
 #include <stdlib.h>
@@ -19,7 +20,7 @@ static void accepted(uint8_t refusal, const char *what)
 {
     if (refusal == PIL_ACCEPTED)
         return;
-    fprintf(stderr, "%s: refusal %u\n", what, refusal);
+    fprintf(stderr, "%s: refused, %s\n", what, pil_refusal_texts[refusal]);
     exit(1);
 }
 

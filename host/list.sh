@@ -13,7 +13,7 @@ unread() {
 [ -r "$script" ] || unread "$script cannot be read"
 listing=$(mktemp) || exit 2
 trap 'rm -f "$listing"' EXIT
-{ "$@" "$lister" < "$script" || echo "the lister broke off"; } | tee "$listing"
+{ "$@" "$lister" < "$script" || echo "the lister broke off"; } | tee "$listing" || exit 3
 case $(tail -n 1 "$listing") in
 bad* | long) exit 1 ;;
 *"broke off") exit 3 ;;

@@ -1,9 +1,11 @@
 /* The C interface of the loop model: the calls of libpil.a, the numbers they answer, and the layout of the area
    that a bench lends to them. Every number of this file but the version is fixed by paper 01; what devices do with
-   frames is told in docs/RULES.md, and pil_names.h has names for the numbers.
+   frames is told in docs/RULES.md of the repository, and pil_names.h has names of kinds, refusals, stops and states.
+   For C99 and C++.
 
    A call allocates nothing and keeps nothing outside the area that it is lent: a copy of the area's bytes is a copy of
-   the loop, and different areas may be used by different threads at once (one area by one thread at a time). */
+   the loop, and different areas may be used by different threads at once (one area by one thread at a time). An area
+   needs no alignment, and libpil.a no function but memset. */
 #ifndef PIL_H
 #define PIL_H
 
@@ -23,21 +25,23 @@ extern "C" {
 /* Refusals. A refused call answers its refusal and zeros and alters nothing; the smallest that holds is given. */
 enum {
     PIL_ACCEPTED = 0,   /* no refusal */
-    PIL_SHAPE = 1,      /* the area's length is that of no loop, or not that of its byte 0; items of a wrong length */
+    PIL_SHAPE = 1,      /* the area's length is that of no loop or, but at set-up, not that of its byte 0, as where it
+                           was not set up yet; at set-up items of another length */
     PIL_UNSOUND = 2,    /* the area's contents break a rule of "What is sound" below; at set-up an item does */
     PIL_NO_DEVICE = 3,  /* the device number is the number of devices or more */
     PIL_BAD_FRAME = 4,  /* a frame over 2,047; a kind or offset outside the message table */
     PIL_EMPTY = 5,      /* the link to take from holds no frame */
     PIL_FULL = 6,       /* the link to add to holds four frames */
-    PIL_NO_ABILITY = 7, /* load without data, status without status, wish without service request */
+    PIL_NO_ABILITY = 7, /* the device lacks the ability: data for a load, status for a status, service request for a
+                           wish, also for wish 0 */
     PIL_TOO_LONG = 8,   /* a load of more than 32 bytes */
     PIL_BUSY = 9        /* a load while the device is sending data (talker state 2) */
 };
 
 /* Why a drain stopped. A refused drain answers 0 here as well: look at its refusal first. */
 enum {
-    PIL_STOP_NO_HOP = 0, /* no device can hop: the links before the tail are empty, or the tail holds four frames (take
-                            some, and drain again) */
+    PIL_STOP_NO_HOP = 0, /* no device can hop. Then the links before the tail are empty, or the tail is full and frames
+                            wait for it: take some, and drain again */
     PIL_STOP_BUDGET = 1, /* the budget is spent, and a hop is still possible */
     PIL_STOP_HANDED = 2  /* the last hop handed a byte; the answer names device, byte and end bit. The frame has gone on
                             into the next link all the same */
@@ -47,7 +51,7 @@ enum {
 enum {
     PIL_KIND_NONE = 0,  /* no message */
     PIL_KIND_DAB = 1,   /* 000-1ff data byte */
-    PIL_KIND_END = 2,   /* 200-3ff end byte: the last of a record */
+    PIL_KIND_END = 2,   /* 200-3ff data byte with the end bit */
     PIL_KIND_NUL = 3,   /* 400 null command */
     PIL_KIND_GTL = 4,   /* 401 go to local */
     PIL_KIND_SDC = 5,   /* 404 selected device clear */
@@ -167,7 +171,7 @@ enum {
     PIL_RECORD_ID_LENGTH = 11,   /* length of the device ID, 0-8 */
     PIL_RECORD_DATA_LENGTH = 12, /* length of the data, 0-32 */
     PIL_RECORD_SENT = 13,        /* bytes of the data already sent, a damaged one among them */
-    PIL_RECORD_LAST = 14,        /* last frame sent while sending: two bytes, little-endian */
+    PIL_RECORD_LAST = 14,        /* while sending, the reply's last byte as the frame sent: two bytes, little-endian */
     PIL_RECORD_REPLY_SENT = 16,  /* bytes of a status or ID reply already sent */
     PIL_RECORD_ZEROS = 17,       /* seven zero bytes */
     PIL_RECORD_ID = 24,          /* eight bytes: the device ID, zero past its length */
@@ -210,9 +214,11 @@ enum {
    - the reply bytes sent are not 1 while status or accessory ID is sent, not 1 to the ID's length while the ID is sent,
      or not 0 otherwise;
    - NRD is noted, or a last frame kept, outside the talker states 2 to 5.
-   So damage gives 2, but damage to byte 0 gives 1: no other count of devices fits the area's length. A set-up item
-   gives 2 where the record that it would become is not sound: a fixed address over 31, an ID length over 8, an ID that is
-   not zero past its length, service request or unaddress without what they need. */
+   So damage that breaks a rule gives 2, and any change of byte 0 gives 1: no other count of devices fits the area's
+   length. Damage that leaves a sound area is not seen. A record is judged by itself, so that one copied from another
+   sound area may take a device's place (example.c exchanges a meter so).
+   A set-up item gives 2 where the record that it would become is not sound: a fixed address over 31, an ID length over
+   8, an ID that is not zero past its length, service request or unaddress without what they need. */
 
 /* What a hop answers. */
 struct pil_hopped {
@@ -253,11 +259,12 @@ struct pil_encoded {
 
 /* The calls. A uint8_t answer is the refusal; in a struct look at the refusal first, since the frame 0 that a refused
    call answers would be a data byte. Pointers are not null, at length 0 either; items and bytes to load lie outside the
-   area. Any number may be passed for a uint64_t. Each call judges the whole area before it does anything: a bench may
-   read it between calls, and write to it at its own risk of refusal 2. */
+   area. Any number may be passed for a uint64_t. Each call on an area but set-up judges the whole of it before it does
+   anything. A bench may read the area between calls, and write to it at its own risk: what is not sound is refused,
+   what is sound is believed. */
 
-/* Writes the power-on loop of the items' devices into the area, whatever that held: as many devices as the area has
-   room for, so items of any other count give 1. Gives 1, 2. */
+/* Writes the power-on loop of the items' devices into the area, whatever that held. The area's length says how many
+   devices there are, PIL_AREA_LENGTH(n) for n, and there are n items. Gives 1, 2. */
 uint8_t pil_set_up(uint8_t *area, size_t area_len, const uint8_t *items, size_t items_len);
 /* Puts a frame of any kind into link 0, which feeds device 0. Gives 1, 2, 4, 6. */
 uint8_t pil_put(uint8_t *area, size_t area_len, uint64_t frame);
@@ -266,18 +273,18 @@ struct pil_hopped pil_hop(uint8_t *area, size_t area_len, uint64_t device);
 /* Takes the oldest frame out of the tail. Gives 1, 2, 5. */
 struct pil_taken pil_take(uint8_t *area, size_t area_len);
 /* Gives the device new data to send, none of it sent yet; with no bytes the device has nothing to send. Refused while
-   it sends data: its talk has to end first (by ETO or ETE, UNT, another's TAD or IFC). The pointer is not null for no
-   bytes either. Gives 1, 2, 3, 7, 8, 9. */
+   it sends data: its talk has to end first (by ETO or ETE, UNT, IFC, any TAD or, with unaddress, its own LAD). Gives 1,
+   2, 3, 7, 8, 9. */
 uint8_t pil_load(uint8_t *area, size_t area_len, uint64_t device, const uint8_t *bytes, size_t bytes_len);
 /* Sets the device's status byte. A wish for service sets no bit of it: that is the bench's. Gives 1, 2, 3, 7. */
 uint8_t pil_status(uint8_t *area, size_t area_len, uint64_t device, uint8_t status);
-/* Has the device ask for service (any wish but 0), or no longer (0). A device that asks already, or was polled since it
-   asked, stays as it is: to ask a second time after a poll, wish 0 and then 1. Gives 1, 2, 3, 7. */
+/* Has the device ask for service (any wish but 0), or no longer (0). Any wish but 0 leaves a device that asks already,
+   or was polled since it asked, as it is: to ask a second time after a poll, wish 0 and then 1. Gives 1, 2, 3, 7. */
 uint8_t pil_wish(uint8_t *area, size_t area_len, uint64_t device, uint64_t wish);
 /* Hops the highest-numbered device that can hop, again and again, at most budget times. A hop that hands a byte ends it
    at once, with PIL_STOP_HANDED even if the budget is spent; otherwise, before each hop, PIL_STOP_NO_HOP if none is
    possible, else PIL_STOP_BUDGET if the budget is spent. So budget 0 makes no hop and tells whether one is possible;
-   2n(n + 1) hops, 480 for fifteen devices, are the most that a loop of n devices can make without a put.
+   A budget of 2n(n + 1), 480 for fifteen devices, always suffices: no loop of n devices makes more hops without a put.
    The frames that devices send are not answered: they lie in the links, and come out at the tail. Gives 1, 2. */
 struct pil_drained pil_drain(uint8_t *area, size_t area_len, uint64_t budget);
 /* The kind of a frame; 0 where it is no message. Gives 4. */

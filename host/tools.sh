@@ -40,11 +40,11 @@ for word in "$@"; do
     esac
 done
 [ -z "$missing" ] && exit 0
-echo "missing:$missing"
+echo "missing:$missing" >&2
 if [ "$(id -u)" -ne 0 ] || ! command -v apt-get > /dev/null; then
     echo "install these packages:$packages" >&2
     exit 1
 fi
-echo "installing:$packages"
+echo "installing:$packages" >&2
 export DEBIAN_FRONTEND=noninteractive
 apt-get -qq update && apt-get -qq install -y --no-install-recommends $packages > /dev/null

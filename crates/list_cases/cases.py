@@ -166,7 +166,7 @@ def loop_words(line):
 
 def line_words(line, number):
     """What is wrong with a line, or ''."""
-    for last, name in ((b'\r', 'carriage return'), (b' ', 'space')):
+    for last, name in ((b'\r', 'carriage return'), (b' ', 'space'), (b'\t', 'tab')):
         if line.endswith(last):
             return '%s at the end of line %d\n' % (name, number)
     if number == 1:
@@ -274,6 +274,8 @@ CASES = {
     'space_line': ONE + b' \n',
     'return_line': ONE + b'600\n\r\n',
     'return_at_end': ONE + b'600\r',
+    'tab_at_end': b'loop 211f\t\n',
+    'tab_behind_frame': ONE + b'600\t\n',
     'line_10': ONE + frames(*range(0x600, 0x608)) + b'xyz\n',
     'line_100': ONE + frames(*range(0x600, 0x662)) + b'602\r\n',
 }

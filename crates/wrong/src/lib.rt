@@ -55,6 +55,10 @@ fn unseen(line: &[u8], number: usize) -> bool {
         at_end(b"space", number);
         return true;
     }
+    if last == b'\t' {
+        at_end(b"tab", number);
+        return true;
+    }
     false
 }
 
