@@ -283,7 +283,7 @@ uint8_t pil_status(uint8_t *area, size_t area_len, uint64_t device, uint8_t stat
 uint8_t pil_wish(uint8_t *area, size_t area_len, uint64_t device, uint64_t wish);
 /* Hops the highest-numbered device that can hop, again and again, at most budget times. A hop that hands a byte ends it
    at once, with PIL_STOP_HANDED even if the budget is spent; otherwise, before each hop, PIL_STOP_NO_HOP if none is
-   possible, else PIL_STOP_BUDGET if the budget is spent. So budget 0 makes no hop and tells whether one is possible;
+   possible, else PIL_STOP_BUDGET if the budget is spent. So budget 0 makes no hop and tells whether one is possible.
    A budget of 2n(n + 1), 480 for fifteen devices, always suffices: no loop of n devices makes more hops without a put.
    The frames that devices send are not answered: they lie in the links, and come out at the tail. Gives 1, 2. */
 struct pil_drained pil_drain(uint8_t *area, size_t area_len, uint64_t budget);

@@ -5,7 +5,7 @@
 
 /* Mnemonics of kinds, PIL_KIND_NONE to PIL_KIND_IDY. */
 static const char *const pil_kind_names[43] = {
-    "none",
+    "---",
     "DAB",
     "END",
     "NUL",

@@ -4,7 +4,7 @@
 what=$1
 shift
 host/tools.sh rt || exit 1
-# Crates are checked in batches, each of which waits for its longest: with two a core less of that is lost.
+# As in the gate: two checks a core.
 export RT_JOBS=${RT_JOBS:-$((2 * $(nproc)))}
 echo "Building $what. Its crates are proved first: four minutes from nothing on two cores, later only what changed." >&2
 log=$(mktemp) || exit 1

@@ -1,5 +1,5 @@
 /* Measures libpil against the model, the same work in one run: alternating runs, the median of each side, and the
-   ratio libpil to model. Use: bench [lister model-lister text], where both listers are commands that read the text. */
+   ratio libpil to model. Use: times [lister model-lister text], where both listers are commands that read the text. */
 #define _POSIX_C_SOURCE 200809L
 #include "both.h"
 #include "loops.h"

@@ -1,53 +1,20 @@
 // Names for people, written to standard output: the mnemonics of the kinds as the message table of 001 has them, and a
 // few words for each refusal, stop reason, talker state and service state.
-use frame::Kind;
+use frame::KINDS;
 use print::text;
 
-pub fn kind(kind: Kind) {
-    match kind {
-        Kind::Unused => text(b"none"),
-        Kind::Dab => text(b"DAB"),
-        Kind::End => text(b"END"),
-        Kind::Nul => text(b"NUL"),
-        Kind::Gtl => text(b"GTL"),
-        Kind::Sdc => text(b"SDC"),
-        Kind::Ppd => text(b"PPD"),
-        Kind::Get => text(b"GET"),
-        Kind::Llo => text(b"LLO"),
-        Kind::Dcl => text(b"DCL"),
-        Kind::Ppu => text(b"PPU"),
-        Kind::Ear => text(b"EAR"),
-        Kind::Lad => text(b"LAD"),
-        Kind::Unl => text(b"UNL"),
-        Kind::Tad => text(b"TAD"),
-        Kind::Unt => text(b"UNT"),
-        Kind::Sad => text(b"SAD"),
-        Kind::Ppe => text(b"PPE"),
-        Kind::Ifc => text(b"IFC"),
-        Kind::Ren => text(b"REN"),
-        Kind::Nre => text(b"NRE"),
-        Kind::Aau => text(b"AAU"),
-        Kind::Lpd => text(b"LPD"),
-        Kind::Ddl => text(b"DDL"),
-        Kind::Ddt => text(b"DDT"),
-        Kind::Rfc => text(b"RFC"),
-        Kind::Eto => text(b"ETO"),
-        Kind::Ete => text(b"ETE"),
-        Kind::Nrd => text(b"NRD"),
-        Kind::Sda => text(b"SDA"),
-        Kind::Sst => text(b"SST"),
-        Kind::Sdi => text(b"SDI"),
-        Kind::Sai => text(b"SAI"),
-        Kind::Tct => text(b"TCT"),
-        Kind::Aad => text(b"AAD"),
-        Kind::Iaa => text(b"IAA"),
-        Kind::Aep => text(b"AEP"),
-        Kind::Iep => text(b"IEP"),
-        Kind::Aes => text(b"AES"),
-        Kind::Ies => text(b"IES"),
-        Kind::Amp => text(b"AMP"),
-        Kind::Imp => text(b"IMP"),
-        Kind::Idy => text(b"IDY"),
+// The mnemonics of the kinds, each with a space behind it, in the order of their numbers; kind 0 has none.
+const MNEMONICS: [u8; 4 * KINDS] = *b"\
+    --- DAB END NUL GTL SDC PPD GET LLO DCL PPU EAR LAD UNL TAD UNT \
+    SAD PPE IFC REN NRE AAU LPD DDL DDT RFC ETO ETE NRD SDA SST SDI \
+    SAI TCT AAD IAA AEP IEP AES IES AMP IMP IDY ";
+
+pub fn kind(number: u64) {
+    if number < KINDS as u64 {
+        let at = 4 * number as usize;
+        text(&MNEMONICS[at..at + 3]);
+    } else {
+        text(b"?");
     }
 }
 

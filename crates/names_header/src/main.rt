@@ -1,6 +1,5 @@
 // Prints a C header with names as arrays by number: the mnemonics of the message table's kinds, and words for refusals,
 // stop reasons, talker states and service states.
-use frame::Encoded;
 use frame::KINDS;
 use print::decimal;
 use print::text;
@@ -32,7 +31,7 @@ fn main() {
     text(b"\n#endif\n");
 }
 
-// An array with its first names.
+// An array: its name, how many entries it has, and these.
 fn names_of(of: Names, name: &[u8], count: u64) {
     text(b"static const char *const pil_");
     text(name);
@@ -59,19 +58,10 @@ fn entry(of: Names, number: u64) {
 
 fn name(of: Names, number: u64) {
     match of {
-        Names::Kinds => kind(number),
+        Names::Kinds => names::kind(number),
         Names::Refusals => names::refusal(number),
         Names::Stops => names::stop(number),
         Names::Talkers => names::talker(number),
         Names::Services => names::service(number),
-    }
-}
-
-// The mnemonic of a kind, by the frame that the encoder gives for it; kind 0 has no frame.
-fn kind(number: u64) {
-    let encoded = frame::encode(number, 0);
-    match encoded {
-        Encoded::Frame(frame) => names::kind(frame::kind_of(frame)),
-        Encoded::BadFrame => names::kind(frame::Kind::Unused),
     }
 }
