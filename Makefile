@@ -21,8 +21,10 @@ list:
 	@$(MAKE) -s -C host lister
 	@host/list.sh target/bin/pil_list "$$SCRIPT" $(RUN)
 
+# The library needs no compiler, but the bench that links it does.
 lib:
 	@$(MAKE) -s -C host lib
+	@host/tools.sh compile run || echo "libpil.a is built; a bench is linked and run with what is missing here." >&2
 
 install: lib
 	@host/install.sh install "$$PREFIX" "$$DESTDIR"

@@ -38,7 +38,10 @@ static unsigned right_round(unsigned frame)
 
 static unsigned send_frame(unsigned kind, unsigned number)
 {
-    return right_round(pil_encode(kind, number).frame);
+    struct pil_encoded encoded = pil_encode(kind, number);
+
+    accepted(encoded.refusal, "encode");
+    return right_round(encoded.frame);
 }
 
 static void load(unsigned device, const char *reading)
@@ -69,7 +72,7 @@ static unsigned most_talkers(void)
     return most;
 }
 
-/* AAD goes out with the first address; each meter that takes one sends it on with the next free one. */
+/* AAD goes out with the first address; each meter that takes one sends it on with the next one. */
 static void give_addresses(unsigned first)
 {
     unsigned out = send_frame(PIL_KIND_AAD, first);

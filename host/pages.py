@@ -5,8 +5,8 @@ Every block of C is compiled, as C and as C++, and run, and has to print the nex
 this kind of machine are run as they stand, in a folder that looks like the repository's root to them; `make list` has
 to print its listing, and a bench is built from what `make install` leaves under an empty prefix. Every link leads to
 a file, and a link to a definition to the file that has it. docs/RULES.md has every kind of the message table once, with
-its codes, and pil.h and pil_names.h name them alike. Use: pages.py CC CXX [RUNNER..], a runner where the machine is not
-x86-64."""
+its codes, pil.h and pil_names.h name them alike, and have as many refusals, stops and states. Use: pages.py CC CXX
+[RUNNER..], a runner where the machine is not x86-64."""
 import os, pathlib, re, shutil, subprocess, sys
 
 root = pathlib.Path(__file__).resolve().parent.parent
@@ -65,6 +65,17 @@ def kinds():
     numbered = re.findall(r'PIL_KIND_(\w+) = \d+,', (root / 'host' / 'pil.h').read_text())
     named = re.findall(r'"([^"]+)"', (root / 'host' / 'pil_names.h').read_text())[:43]
     numbered[1:] == named[1:] == [name for _, _, name in rows] or fail('pil.h and pil_names.h name other kinds')
+
+
+def counts():
+    """Each array of pil_names.h has a name for every number that pil.h has, and no more."""
+    header, names = (root / 'host' / 'pil.h').read_text(), (root / 'host' / 'pil_names.h').read_text()
+    for array, first in (('refusal_texts', 'PIL_ACCEPTED'), ('stop_texts', 'PIL_STOP_NO_HOP'),
+                         ('talker_texts', 'PIL_TALKER_IDLE'), ('service_texts', 'PIL_SERVICE_NONE')):
+        numbers = next(enum for enum in re.findall(r'^enum \{(.*?)^\};', header, re.M | re.S) if first in enum)
+        listed = re.search(r'pil_%s\[\d+\] = \{(.*?)\};' % array, names, re.S)[1]
+        named, numbered = re.findall(r'"([^"]+)"', listed), re.findall(r'PIL_\w+ = \d+', numbers)
+        len(named) == len(numbered) and '?' not in named or fail('pil_%s and pil.h differ in number' % array)
 
 
 def programs(page):
@@ -135,5 +146,6 @@ for page in pages:
     for text, expected in programs(page):
         compiled(page, text, expected)
 kinds()
+counts()
 commands(*next(programs(root / 'README.md')))
 print('pages: %(links)d links, %(programs)d programs and %(commands)d commands, as the pages say' % tried)

@@ -62,7 +62,7 @@ fn unseen(line: &[u8], number: usize) -> bool {
     false
 }
 
-// The byte of two digits; the remainders keep the sum one whatever is written there.
+// The byte of two digits; the remainders change no digit, and keep the sum a byte whatever is written there.
 fn byte(high: u8, low: u8) -> u8 {
     16 * (digit(high) % 16) + digit(low) % 16
 }

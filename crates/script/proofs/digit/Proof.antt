@@ -7,7 +7,7 @@ use Rattle.script.proofs.digit.Statement.{statement}
 use Rattle.script.proofs.digit.Tie as tie
 
 sub-result : tie.Need-sub-result
-sub-result c = leb-true 48 _ (left _ _ (c .if1 .taken))
+sub-result c = omega (arith, leb-true 48 (c .before .args .b) (left _ _ (c .if1 .taken)))
 
 returns : tie.Need-returns
 unfolding digitOf
