@@ -1,12 +1,12 @@
-/* A controller that is not ready, and a damaged byte. To learn here: NRD ends a talk after the byte under way, damage
-   ends it with ETE, and after both a later SDA goes on at the next byte; only a new load starts at the first. */
+/* A controller that is not ready, and damaged bytes. To learn here: NRD ends a talk after the byte under way; a wrong
+   data bit or a lost end bit ends it with ETE. A later SDA goes on at the next byte, a new load at its first. */
 #include "pil.h"
 #include "pil_names.h"
 #include <stdio.h>
 #include <stdlib.h>
 #include <string.h>
 
-enum { METER, DEVICES, ADDRESS = 1, NEVER = 0, DAMAGED_BIT = 1 };
+enum { METER, DEVICES, ADDRESS = 1, NEVER = 0, D1 = 0x001 };
 static uint8_t loop[PIL_AREA_LENGTH(DEVICES)];
 static char got[PIL_MOST_DATA + 1]; /* what has come out since the load, as text */
 
@@ -47,14 +47,14 @@ static void load(const char *text)
 }
 
 /* Asks for data and passes each byte back: byte number not_ready after an NRD, byte number damaged with a wrong bit. */
-static void talk(const char *title, unsigned not_ready, unsigned damaged)
+static void talk(const char *title, unsigned not_ready, unsigned damaged, unsigned bit)
 {
     printf("%s:\n", title);
     unsigned frame = right_round(pil_encode(PIL_KIND_SDA, 0).frame);
     for (unsigned byte = 1; is_data(frame); byte++) {
         if (byte == not_ready)
             right_round(pil_encode(PIL_KIND_NRD, 0).frame);
-        frame = right_round(byte == damaged ? frame ^ DAMAGED_BIT : frame);
+        frame = right_round(byte == damaged ? frame ^ bit : frame);
     }
 }
 
@@ -67,13 +67,13 @@ int main(void)
     accepted(pil_set_up(loop, sizeof loop, items, sizeof items), "set-up");
     load("1.503");
     right_round(pil_encode(PIL_KIND_TAD, ADDRESS).frame);
-    talk("NRD while the second byte is under way", 2, NEVER);
-    talk("SDA goes on at the next byte", NEVER, NEVER);
-    talk("SDA when all is sent", NEVER, NEVER);
+    talk("NRD while the second byte is under way", 2, NEVER, 0);
+    talk("SDA goes on at the next byte", NEVER, NEVER, 0);
+    talk("SDA when all is sent", NEVER, NEVER, 0);
     load("72");
-    talk("SDA after a new load", NEVER, NEVER);
+    talk("SDA after a new load", NEVER, NEVER, 0);
     load("7.1");
-    talk("a new load, and its first byte comes back damaged", NEVER, 1);
-    talk("SDA goes on at the next byte, here too", NEVER, NEVER);
+    talk("a new load, and its first byte comes back damaged", NEVER, 1, D1);
+    talk("SDA goes on at the next byte, here too; its END comes back as a DAB", NEVER, 2, PIL_C2);
     return 0;
 }

@@ -142,13 +142,14 @@ static unsigned address_in_use(const uint8_t *area)
     return address < PIL_NO_ADDRESS ? address : chance_address();
 }
 
-/* A byte on its way back to a device that sends: as sent, with other control bits, or damaged. */
+/* A byte on its way back to a device that sends: as sent, or with another data bit, C1, C2 or both. */
 static unsigned returned_byte(unsigned frame)
 {
-    switch (below(8)) {
+    switch (below(12)) {
     case 0: return frame ^ 1u << below(8);
     case 1: return frame ^ PIL_C1;
     case 2: return frame ^ PIL_C2;
+    case 3: return frame ^ (PIL_C1 | PIL_C2);
     default: return frame;
     }
 }

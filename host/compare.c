@@ -26,11 +26,14 @@ enum {
     DEFAULT_SEED = 20240,
     DEFAULT_CALLS = 1100000,
     FULL_RUN = 1000000, /* calls from which on the counts below are demanded */
-    LEAST_REFUSALS = 100, /* how often each refusal must be given */
+    LEAST = 100, /* how often each refusal must be given, and a byte come back in each way */
     REFUSALS = PIL_BUSY + 1,
     TALKERS = PIL_TALKER_ACCESSORY + 1,
     REASONS = PIL_STOP_HANDED + 1
 };
+
+/* How a byte comes back to the device that sent it: the control bits in which it differs, or a data bit. */
+enum returned { AS_SENT, OTHER_C1, OTHER_C2, OTHER_C1_AND_C2, OTHER_DATA, RETURNED };
 
 enum which { SET_UP, PUT, HOP, TAKE, LOAD, STATUS, WISH, DRAIN, DECODE, ENCODE, WHICH };
 
@@ -55,7 +58,7 @@ static uint8_t rooms[2][ROOM], before[ROOM];
 static uint8_t input[INPUT_ROOM], input_before[INPUT_ROOM];
 static uint64_t seed = DEFAULT_SEED, wanted = DEFAULT_CALLS, made;
 static const struct call *under_way;
-static uint64_t refusals[REFUSALS], talkers[TALKERS], reasons[REASONS], calls_of[WHICH];
+static uint64_t refusals[REFUSALS], talkers[TALKERS], reasons[REASONS], returned[RETURNED], calls_of[WHICH];
 
 /* The history under way: its number of devices, the frame taken last, whether many frames are under way. */
 static unsigned n, taken;
@@ -188,6 +191,24 @@ static void catch_signals(void)
 
 /* One call, on both sides. */
 
+static unsigned get16(const uint8_t *bytes)
+{
+    return bytes[0] | (unsigned)bytes[1] << 8;
+}
+
+/* The device hopped: how it stands, and how its own byte came back if it took one. */
+static void count_hop(unsigned device)
+{
+    const uint8_t *area = before + GUARD;
+    const uint8_t *r = area + PIL_RECORD_AT(device);
+    unsigned frame = get16(area + PIL_LINK_AT(area[PIL_HEADER_DEVICES], device) + PIL_LINK_FRAMES);
+    unsigned other = frame ^ get16(r + PIL_RECORD_LAST);
+
+    talkers[area_of(PIL)[PIL_RECORD_AT(device) + PIL_RECORD_TALKER]]++;
+    if (r[PIL_RECORD_TALKER] >= PIL_TALKER_DATA && frame < PIL_C3)
+        returned[other & PIL_DATA_BITS ? OTHER_DATA : other / PIL_C1]++;
+}
+
 static void count_answer(const struct call *c, const struct answer *a)
 {
     calls_of[c->which]++;
@@ -195,7 +216,7 @@ static void count_answer(const struct call *c, const struct answer *a)
     if (c->which == DRAIN && a->refusal == PIL_ACCEPTED)
         reasons[a->reason]++;
     if (c->which == HOP && a->refusal == PIL_ACCEPTED)
-        talkers[area_of(PIL)[PIL_RECORD_AT(c->number) + PIL_RECORD_TALKER]]++;
+        count_hop((unsigned)c->number);
 }
 
 /* A refused call alters nothing, an accepted one nothing beyond the area: no model is needed to see this. */
@@ -599,9 +620,11 @@ static int report(void)
     for (unsigned i = 0; i < WHICH; i++)
         printf(" %s %" PRIu64, names[i], calls_of[i]);
     printf("\n");
-    enough &= report_counts("refusals given", refusals, PIL_SHAPE, REFUSALS, LEAST_REFUSALS);
+    enough &= report_counts("refusals given", refusals, PIL_SHAPE, REFUSALS, LEAST);
     enough &= report_counts("talker states after a hop", talkers, 0, TALKERS, 1);
     enough &= report_counts("reasons of drains", reasons, 0, REASONS, 1);
+    enough &= report_counts("bytes come back as sent (0), with another C1 (1), C2 (2), both (3), data (4)", returned, 0,
+                            RETURNED, LEAST);
     return enough;
 }
 

@@ -1,5 +1,5 @@
-/* The model: each rule of paper 01 as a small function named after it, straight on the bytes of the area.
-   It is written from the paper alone and shares nothing with the library but the names in pil.h. */
+/* The model: each rule of the papers 01 and 02 as a small function named after it, straight on the bytes of the area.
+   It is written from them alone and shares nothing with the library but the names in pil.h. */
 #include "model.h"
 
 #include <stdio.h>
@@ -439,12 +439,19 @@ static unsigned asked_to_send(uint8_t *r, unsigned talker, unsigned frame)
     return send_next(r);
 }
 
-/* A sending device's own byte come back. C1 and C2 do not count. */
+/* A byte come back agrees with the last frame sent in its data bits and C2 (02, b). Any device may have set C1. */
+static int agrees(const uint8_t *r, unsigned frame)
+{
+    unsigned counts = PIL_DATA_BITS | (MODEL_FAULT == 4 ? 0 : PIL_C2) | (MODEL_FAULT == 5 ? PIL_C1 : 0);
+
+    return (frame & counts) == (get16(r + PIL_RECORD_LAST) & counts);
+}
+
 static unsigned own_byte_returned(uint8_t *r, unsigned frame)
 {
     unsigned end;
 
-    if ((frame & PIL_DATA_BITS) != (get16(r + PIL_RECORD_LAST) & PIL_DATA_BITS))
+    if (!agrees(r, frame))
         end = ETE;
     else if (r[PIL_RECORD_NRD] || left_to_send(r, r[PIL_RECORD_TALKER]) == 0)
         end = ETO;

@@ -14,7 +14,7 @@
 
 /* The version: the first number rises where a bench has to be changed, the second where something is added. */
 #define PIL_VERSION_MAJOR 1
-#define PIL_VERSION_MINOR 0
+#define PIL_VERSION_MINOR 1
 #define PIL_VERSION_PATCH 0
 #define PIL_VERSION (PIL_VERSION_MAJOR * 10000 + PIL_VERSION_MINOR * 100 + PIL_VERSION_PATCH)
 

@@ -1,4 +1,4 @@
-/* Runs the rows of 01, Rows for the table, and its cases at the limits through libpil.a, called as a bench calls it.
+/* Runs the rows of 01 and 02, and 01's cases at the limits, through libpil.a, called as a bench calls it.
    Prints each check that fails and exits 1, or one line that says how many held. */
 #include "pil.h"
 
@@ -87,6 +87,11 @@ static void data_rows(void)
     check("row 10, 542", sends(0x542), 0x542);
     check("row 10, 041", sends(0x041), 0x540);
     check("row 10, 560", sends(0x560), 0x242);
+    talker_at_5("\x41\x42");
+    sends(0x560);
+    sends(0x041);
+    check("row 13", sends(0x042), 0x541);
+    check("row 13, talker", record[PIL_RECORD_TALKER], PIL_TALKER_ADDRESSED);
     talker_at_5("");
     check("560 with no data", sends(0x560), 0x540);
 }

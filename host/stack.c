@@ -14,7 +14,7 @@ enum {
     COPY = 16,   /* so many bytes of an ID or data in a row are a copy */
     ADDRESS = 5,
     HOPPER = LOOP_DEVICES - 1, /* the device that hops */
-    RECORDS = LOOP_TALKER_STATES * 3 * 2 * 2 * 2 * 2 /* numbers for make_record */
+    RECORDS = LOOP_TALKER_STATES * 3 * 2 * 2 * 2 * 3 /* numbers for make_record */
 };
 
 typedef void function(void);
@@ -144,6 +144,7 @@ static void all_sent(uint8_t *r)
    Configured devices have bytes left to send, the others none. */
 static int make_record(uint8_t *r, unsigned number, unsigned frame)
 {
+    static const unsigned others[] = {0, 1, PIL_C2};
     unsigned last;
 
     full_record(r, ADDRESS, digit(&number, LOOP_TALKER_STATES));
@@ -155,7 +156,7 @@ static int make_record(uint8_t *r, unsigned number, unsigned frame)
     if (r[PIL_RECORD_TALKER] < PIL_TALKER_DATA)
         return number == 0;
     r[PIL_RECORD_NRD] = (uint8_t)digit(&number, 2);
-    last = (frame ^ digit(&number, 2)) & (PIL_C2 | PIL_C1 | PIL_DATA_BITS);
+    last = (frame ^ others[digit(&number, 3)]) & (PIL_C2 | PIL_C1 | PIL_DATA_BITS);
     r[PIL_RECORD_LAST] = (uint8_t)last;
     r[PIL_RECORD_LAST + 1] = (uint8_t)(last >> 8);
     return 1;

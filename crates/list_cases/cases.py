@@ -80,7 +80,7 @@ class Device:
 
     def take_data(self, f):
         if self.talker >= 2:  # its own frame come back: one reply byte, so nothing is left
-            damaged = f % 256 != self.last % 256
+            damaged = f % 256 != self.last % 256 or f // 512 != self.last // 512
             self.stop()
             return (0x541 if damaged else 0x540), None
         if self.listener:
@@ -244,6 +244,8 @@ CASES = {
     'listeners': LISTENERS + frames(*range(0x420, 0x42f), 0x041, 0x2ff, 0x141, 0x3ff),
     'ids_and_status': b'loop 1f05 2f1f\n' + frames(
         0x445, 0x563, 0x000, 0x560, 0x561, 0x542, 0x000, 0x562, 0x561, 0x0ff, 0x45f),
+    'dab_come_back': b'loop 0405\n' + frames(
+        0x445, 0x561, 0x000, 0x561, 0x100, 0x561, 0x200, 0x561, 0x300, 0x561, 0x001),
     'many_frames': b'loop ff1f 2101 5d02 3f1f 011f\n' + any_frames(1, 300),
     'seventeen_devices': b'loop' + b' 011f' * 17 + b'\n',
     'upper_sixteenth': b'loop' + b' 011f' * 15 + b' 011F\n',

@@ -1,4 +1,4 @@
-// Data or end, and identify (01, What a device does with a frame).
+// Data or end, and identify (01, What a device does with a frame; 02, b).
 use device::Device;
 use device::Handed;
 use reply::C1;
@@ -13,17 +13,23 @@ use state::State;
 use state::sends;
 ghost use mathlib.Core.Path.{_≡_};
 ghost use lib.ListN.{length};
-ghost use Rattle.device.specs.Data.{returned, heard, dataOrEnd, idy};
+ghost use Rattle.device.specs.Data.{agrees, returned, heard, dataOrEnd, idy};
 ghost use Rattle.device.specs.declared.Device.{Device};
 ghost use Rattle.record.specs.Record.{recordSize};
 ghost use Rattle.state.specs.State.{with, inRecord, sentWith, sentFrom};
 
-// Only the eight data bits are compared: a neighbour may have set C1.
+// C2 counts, which tells an END from a DAB; C1 does not, since any device may set it.
+fn agrees(frame: u16, last: u16) -> bool
+    ensures { λ r. ⌜ r ≡ agrees frame last ⌝ }
+{
+    (frame % C1 == last % C1) & (frame / C2 % 2 == last / C2 % 2)
+}
+
 fn returned(state: State, rec: &[u8], frame: u16) -> Passed
     requires { ⌜ length (now rec) ≡ recordSize ⌝ }
     ensures { λ r. ⌜ sentFrom (now (rec .entry)) r ≡ returned (inRecord (now (rec .entry)) state) frame ⌝ }
 {
-    if frame % C1 == state.last % C1 {
+    if agrees(frame, state.last) {
         if state.noted == 1 {
             return stops(state, ETO);
         }

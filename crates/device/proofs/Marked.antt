@@ -12,7 +12,7 @@ use Rattle.device.specs.declared.Device.{Device}
 use Rattle.device.proofs.Chosen.{chosen}
 
 -- what the frame has, and has with C1 set where it was clear
-set-or-not : (P : ℕ → Type 0) (f : ℕ) → (HasC1 f → P f) → ((HasC1 f → ⊥) → P (f + c1)) → P (withC1 f)
+pub set-or-not : (P : ℕ → Type 0) (f : ℕ) → (HasC1 f → P f) → ((HasC1 f → ⊥) → P (f + c1)) → P (withC1 f)
 set-or-not P f h k =
     chosen P (eqb (f / c1 % 2) 1) f (f + c1) (λ e. h (eqb-true _ _ e)) (λ e. k (eqb-false _ _ e))
 

@@ -1,28 +1,31 @@
 -- The sentences of specs/Sentences.antt, in the paper's order: four are told of every rule (Told), the others follow
 -- from the rule of their frames.
-use Prim.Native.Nat.{ℕ, _-_, _≤_, _<_}
-use mathlib.Core.Path.{_≡_, refl}
+use Prim.Native.Nat.{ℕ, _+_, _-_, _/_, _≤_, _<_}
+use mathlib.Core.Path.{_≡_, refl, sym, _∙_}
+use mathlib.Core.Bool.{true, false, and-false}
 use mathlib.Core.Logic.{_⊎_, inl, inr}
 use native.Mathlib.Omega.{arith}
 use lib.Dec.{eqb}
-use borrow.Author.Tests.{ltb-true, ltb-false, ne-eqb}
+use borrow.Author.Tests.{ltb-true, lt-ltb, eq-eqb, ne-eqb}
 use Rattle.frame.specs.Messages.{messages, firstIn, firstOf, codesIn, codesOf}
 use Rattle.frame.proofs.Rows.{within-kind}
 use Rattle.device.specs.Choose.{choose}
 use Rattle.device.specs.Device.{idle, addressed, sending}
 use Rattle.device.specs.Change.{talking}
 use Rattle.device.specs.Commands.{lad, tad}
-use Rattle.device.specs.Reply.{eto, ete, stops, continues}
+use Rattle.device.specs.Reply.{eto, ete, c1, c2, stops, continues}
 use Rattle.device.specs.Ready.{aad}
-use Rattle.device.specs.Data.{returned, heard, dataOrEnd}
+use Rattle.device.specs.Data.{dataBits, endBit, agrees, returned, heard, dataOrEnd}
 use Rattle.device.specs.Take.{takes}
-use Rattle.device.specs.Sentences.{HasC1, CommandsGoOn, NoLadIs31, NoTadIs31, ConfiguredPassesAad}
-use Rattle.device.specs.Sentences.{OwnNotHanded, OwnNotPassed, IdyGoesOn, ServiceShown, C1Kept, LeavingZeroes}
+use Rattle.device.specs.Sentences.{HasC1, Sending, CommandsGoOn, NoLadIs31, NoTadIs31, ConfiguredPassesAad}
+use Rattle.device.specs.Sentences.{OwnNotHanded, OwnNotPassed, OwnCompared, IdyGoesOn, ServiceShown, C1Kept}
+use Rattle.device.specs.Sentences.{LeavingZeroes}
 use Rattle.device.specs.declared.Device.{Device}
 use Rattle.device.specs.Sent.{Sent}
+use Rattle.device.specs.Classes.{IsData}
 use Rattle.device.proofs.Classes.{data-frame, idy-frame}
 use Rattle.device.proofs.Chosen.{chosen}
-use Rattle.device.proofs.Marked.{marked-below, marked-above, marked-bits, marked-same}
+use Rattle.device.proofs.Marked.{set-or-not, marked-below, marked-above, marked-bits, marked-same}
 use Rattle.device.proofs.Told.{told}
 
 pub commands-go-on : CommandsGoOn
@@ -53,17 +56,54 @@ configured-passes-aad d f c e = rw (e, ne-eqb (d .configured) 0 c)
 pub own-not-handed : OwnNotHanded
 own-not-handed d f s = told d f .unhanded s
 
+own-returned : (d : Device) (f : ℕ) → Sending d → IsData f → takes d f ≡ returned d f
+unfolding dataOrEnd choose
+own-returned d f s i = rw (data-frame d f (i .past), lt-ltb addressed (d .talker) s)
+
 pub own-not-passed : OwnNotPassed
-unfolding dataOrEnd returned
+unfolding returned
 own-not-passed d f s i =
-    rw (data-frame d f (i .past))
-    (chosen Own (sending d) _ _
-    (λ e. chosen Own _ _ _
+    rw (own-returned d f s i)
+    (chosen Own _ _ _
     (λ e. chosen Own (eqb (d .noted) 1) _ _ (λ e. inr (inl refl)) (λ e. inr (inr refl))) (λ e. inl refl))
-    (λ e. absurd (omega (arith, ltb-false addressed (d .talker) e))))
   where
     Own : Sent → Type 0
     Own x = (x ≡ stops d ete) ⊎ ((x ≡ stops d eto) ⊎ (x ≡ continues d))
+
+differing : (d : Device) (f : ℕ) → agrees f (d .last) ≡ false → returned d f ≡ stops d ete
+unfolding returned choose
+differing d f e = rw e
+
+agreeing : (d : Device) (f : ℕ) → agrees f (d .last) ≡ true →
+    (returned d f ≡ stops d eto) ⊎ (returned d f ≡ continues d)
+unfolding returned choose
+agreeing d f e = rw e (chosen Own (eqb (d .noted) 1) _ _ (λ e. inl refl) (λ e. inr refl))
+  where
+    Own : Sent → Type 0
+    Own x = (x ≡ stops d eto) ⊎ (x ≡ continues d)
+
+-- C1 set where it was clear leaves data bits and C2
+c1-set : (d : Device) (f : ℕ) → (HasC1 f → ⊥) → returned d (f + c1) ≡ returned d f
+unfolding returned
+c1-set d f n =
+    let b : dataBits (f + c1) ≡ dataBits f = omega arith in
+    let q : f / c2 ≡ f / c1 / 2 = omega arith in
+    let e : (f + c1) / c2 ≡ f / c1 / 2 = omega arith in
+    rw (b, e, q)
+
+pub own-compared : OwnCompared
+own-compared d f s i =
+    record {
+      bits-differ = λ n. own ∙ differing d f (rw (ne-eqb (dataBits f) (dataBits (d .last)) n));
+      end-differs = λ n. own ∙ differing d f (rw (ne-eqb (endBit f) (endBit (d .last)) n, and-false));
+      agreed = λ b e. rw own (agreeing d f (rw (eq-eqb (dataBits f) _ b, eq-eqb (endBit f) _ e)));
+      c1-uncounted =
+          set-or-not (λ g. takes d g ≡ takes d f) f (λ h. refl)
+          (λ n. own-returned d (f + c1) s (record { past = omega (arith, i .past) }) ∙ c1-set d f n ∙ sym own);
+    }
+  where
+    own : takes d f ≡ returned d f
+    own = own-returned d f s i
 
 pub idy-goes-on : IdyGoesOn
 idy-goes-on =

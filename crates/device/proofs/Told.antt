@@ -18,7 +18,7 @@ use Rattle.device.specs.Commands.{lad, tad, aau}
 use Rattle.device.specs.Reply.{eto, ete, sends, marked, stops, dataFrame, otherByte, otherLength, sendsData}
 use Rattle.device.specs.Reply.{sendsOther, continues}
 use Rattle.device.specs.Ready.{requested, polls, sst, nrd, aad}
-use Rattle.device.specs.Data.{dataBits, returned, heard, dataOrEnd}
+use Rattle.device.specs.Data.{returned, heard, dataOrEnd}
 use Rattle.device.specs.Take.{rules, takes}
 use Rattle.device.specs.Classes.{IsCommand}
 use Rattle.device.specs.Sentences.{Of, HasC1, Sending, ShowsService, Zeroed}
@@ -140,7 +140,7 @@ module _ (d : Device) (f : ℕ) (n : IsCommand f → ⊥) where
   returned-told : Told d f (returned d f)
   unfolding returned
   returned-told =
-      chosen (Told d f) (eqb (dataBits f) (dataBits (d .last))) _ _
+      chosen (Told d f) _ _ _
       (λ e. chosen (Told d f) (eqb (d .noted) 1) _ _ (λ e. stops-told d eto (omega arith) (omega arith))
       (λ e. continues-told d (λ s. refl)))
       (λ e. stops-told d ete (omega arith) (omega arith))

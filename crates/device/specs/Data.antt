@@ -1,5 +1,6 @@
--- Data or end, and identify (01, What a device does with a frame).
+-- Data or end, and identify (01, What a device does with a frame; 02, b).
 use Prim.Native.Nat.{ℕ, _/_, _%_}
+use mathlib.Core.Bool.{Bool, _&&_}
 use lib.Dec.{eqb}
 use Rattle.device.specs.Choose.{choose}
 use Rattle.device.specs.Device.{sending}
@@ -15,11 +16,15 @@ dataBits f = f % c1
 abbrev pub endBit : ℕ → ℕ
 endBit f = f / c2 % 2
 
--- its own frame come back: ETE if the data bits differ from the last frame sent, else ETO if NRD was noted, else what
+-- a byte come back agrees with the last frame sent: in its data bits and in C2 (02, b), and C1 does not count
+abbrev pub agrees : ℕ → ℕ → Bool
+agrees f last = eqb (dataBits f) (dataBits last) && eqb (endBit f) (endBit last)
+
+-- its own frame come back: ETE if it does not agree with the last frame sent, else ETO if NRD was noted, else what
 -- `continues` gives: the next byte, or ETO if nothing is left
 unfoldable pub returned : Device → ℕ → Sent
 returned d f =
-    choose (eqb (dataBits f) (dataBits (d .last)))
+    choose (agrees f (d .last))
     (choose (eqb (d .noted) 1) (stops d eto) (continues d))
     (stops d ete)
 

@@ -1,5 +1,5 @@
--- 01's rows 1 to 12: one device, abilities ff, fixed address 1f, with what a row names; frames, and what is seen after
--- each. All of them as one statement, proved in proofs/Table.antt.
+-- 01's rows 1 to 12 and row 13 of 02, b: one device, abilities ff, fixed address 1f, with what a row names; frames, and
+-- what is seen after each. All of them as one statement, proved in proofs/Table.antt.
 use Prim.Native.Nat.{ℕ}
 use mathlib.Core.Path.{_≡_}
 use mathlib.Core.List.{List, [], _∷_, map}
@@ -82,6 +82,7 @@ table =
     row 11 polling (0x561 ∷ []) (see 0x020 31 0 3 2 ∷ []) ∷
     row 12 (serving unconfigured asking) (0x600 ∷ []) (see 0x700 31 0 0 1 ∷ []) ∷
     row 12 (serving unconfigured polled) (0x600 ∷ []) (see 0x600 31 0 0 2 ∷ []) ∷
+    row 13 loaded (0x560 ∷ 0x041 ∷ 0x042 ∷ []) (see 0x041 31 0 2 0 ∷ see 0x242 31 0 2 0 ∷ see 0x541 31 0 1 0 ∷ []) ∷
     []
 
 -- Each row's frames show what the row says.

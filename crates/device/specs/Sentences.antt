@@ -1,5 +1,5 @@
--- Sentences of 01, "What a device does with a frame", in its order: each holds for every device, sound or not, and
--- every frame. Proved in proofs/Sentences.antt.
+-- Sentences of 01, "What a device does with a frame", in its order, and of 02, b: each holds for every device, sound or
+-- not, and every frame. Proved in proofs/Sentences.antt.
 use Prim.Native.Nat.{ℕ, _≤_, _<_, _/_, _%_}
 use mathlib.Core.Path.{_≡_}
 use mathlib.Core.Logic.{_⊎_}
@@ -8,8 +8,8 @@ use Rattle.frame.specs.declared.Kind.the-variants.{Lad, Tad, Aad}
 use Rattle.frame.specs.Messages.{kindAt, numberOf}
 use Rattle.device.specs.Device.{idle, addressed, asking, noAddress}
 use Rattle.device.specs.Change.{talking}
-use Rattle.device.specs.Reply.{eto, ete, c1, sends, stops, continues}
-use Rattle.device.specs.Data.{dataBits}
+use Rattle.device.specs.Reply.{eto, ete, c1, sends, withC1, stops, continues}
+use Rattle.device.specs.Data.{dataBits, endBit}
 use Rattle.device.specs.Take.{takes}
 use Rattle.device.specs.Classes.{IsData, IsCommand, IsIdentify}
 use Rattle.device.specs.declared.Device.{Device}
@@ -52,6 +52,17 @@ abbrev pub OwnNotPassed : Type 0
 OwnNotPassed =
     (d : Device) (f : ℕ) → Sending d → IsData f →
     (takes d f ≡ stops d ete) ⊎ ((takes d f ≡ stops d eto) ⊎ (takes d f ≡ continues d))
+
+-- It is held to the last frame sent (02, b): ETE where a data bit or C2 differs, and only there; C1 does not count.
+pub record Compared (d : Device) (f : ℕ) : Type 0 where
+  pub bits-differ : (dataBits f ≡ dataBits (d .last) → ⊥) → takes d f ≡ stops d ete
+  pub end-differs : (endBit f ≡ endBit (d .last) → ⊥) → takes d f ≡ stops d ete
+  pub agreed : dataBits f ≡ dataBits (d .last) → endBit f ≡ endBit (d .last) →
+      (takes d f ≡ stops d eto) ⊎ (takes d f ≡ continues d)
+  pub c1-uncounted : takes d (withC1 f) ≡ takes d f
+
+abbrev pub OwnCompared : Type 0
+OwnCompared = (d : Device) (f : ℕ) → Sending d → IsData f → Compared d f
 
 -- IDY goes on in every state, its data bits unchanged; it is handed to nobody, and leaves the device as it was.
 pub record IdyGoesOn : Type 0 where
