@@ -124,6 +124,11 @@ void spoil_item(uint8_t *item)
 
 /* Frames. */
 
+unsigned frame_at(const uint8_t *bytes)
+{
+    return bytes[0] | (unsigned)bytes[1] << 8;
+}
+
 static unsigned code(unsigned kind)
 {
     return model_encode(kind, 0).frame;
@@ -161,7 +166,7 @@ static unsigned awaited_frame(const uint8_t *r)
         return code(PIL_KIND_SDA) + below(4);
     if (one_in(12))
         return code(PIL_KIND_NRD);
-    return returned_byte(r[PIL_RECORD_LAST] | (unsigned)r[PIL_RECORD_LAST + 1] << 8);
+    return returned_byte(frame_at(r + PIL_RECORD_LAST));
 }
 
 static unsigned single_command(void)

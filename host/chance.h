@@ -23,6 +23,8 @@ void chance_items(uint8_t *items, unsigned n);
 void spoil_item(uint8_t *item);
 /* Fills the area of n devices with sound records and links in any states. */
 void chance_sound_area(uint8_t *area, unsigned n);
+/* The frame in two bytes of a record or a link. */
+unsigned frame_at(const uint8_t *bytes);
 /* A frame for link 0: often the frame taken last, come round, and otherwise what suits the devices' states. */
 unsigned chance_frame(const uint8_t *area, unsigned taken);
 

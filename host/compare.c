@@ -191,18 +191,13 @@ static void catch_signals(void)
 
 /* One call, on both sides. */
 
-static unsigned get16(const uint8_t *bytes)
-{
-    return bytes[0] | (unsigned)bytes[1] << 8;
-}
-
 /* The device hopped: how it stands, and how its own byte came back if it took one. */
 static void count_hop(unsigned device)
 {
     const uint8_t *area = before + GUARD;
     const uint8_t *r = area + PIL_RECORD_AT(device);
-    unsigned frame = get16(area + PIL_LINK_AT(area[PIL_HEADER_DEVICES], device) + PIL_LINK_FRAMES);
-    unsigned other = frame ^ get16(r + PIL_RECORD_LAST);
+    unsigned frame = frame_at(area + PIL_LINK_AT(area[PIL_HEADER_DEVICES], device) + PIL_LINK_FRAMES);
+    unsigned other = frame ^ frame_at(r + PIL_RECORD_LAST);
 
     talkers[area_of(PIL)[PIL_RECORD_AT(device) + PIL_RECORD_TALKER]]++;
     if (r[PIL_RECORD_TALKER] >= PIL_TALKER_DATA && frame < PIL_C3)

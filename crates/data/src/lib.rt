@@ -22,7 +22,13 @@ ghost use Rattle.state.specs.State.{with, inRecord, sentWith, sentFrom};
 fn agrees(frame: u16, last: u16) -> bool
     ensures { λ r. ⌜ r ≡ agrees frame last ⌝ }
 {
-    (frame % C1 == last % C1) & (frame / C2 % 2 == last / C2 % 2)
+    if frame % C1 != last % C1 {
+        return false;
+    }
+    if frame / C2 % 2 != last / C2 % 2 {
+        return false;
+    }
+    true
 }
 
 fn returned(state: State, rec: &[u8], frame: u16) -> Passed

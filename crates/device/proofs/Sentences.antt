@@ -2,7 +2,7 @@
 -- from the rule of their frames.
 use Prim.Native.Nat.{ℕ, _+_, _-_, _/_, _≤_, _<_}
 use mathlib.Core.Path.{_≡_, refl, sym, _∙_}
-use mathlib.Core.Bool.{true, false, and-false}
+use mathlib.Core.Bool.{Bool, true, false, and-false}
 use mathlib.Core.Logic.{_⊎_, inl, inr}
 use native.Mathlib.Omega.{arith}
 use lib.Dec.{eqb}
@@ -60,27 +60,25 @@ own-returned : (d : Device) (f : ℕ) → Sending d → IsData f → takes d f �
 unfolding dataOrEnd choose
 own-returned d f s i = rw (data-frame d f (i .past), lt-ltb addressed (d .talker) s)
 
-pub own-not-passed : OwnNotPassed
-unfolding returned
-own-not-passed d f s i =
-    rw (own-returned d f s i)
-    (chosen Own _ _ _
-    (λ e. chosen Own (eqb (d .noted) 1) _ _ (λ e. inr (inl refl)) (λ e. inr (inr refl))) (λ e. inl refl))
-  where
-    Own : Sent → Type 0
-    Own x = (x ≡ stops d ete) ⊎ ((x ≡ stops d eto) ⊎ (x ≡ continues d))
-
 differing : (d : Device) (f : ℕ) → agrees f (d .last) ≡ false → returned d f ≡ stops d ete
 unfolding returned choose
 differing d f e = rw e
 
 agreeing : (d : Device) (f : ℕ) → agrees f (d .last) ≡ true →
-    (returned d f ≡ stops d eto) ⊎ (returned d f ≡ continues d)
+    returned d f ≡ choose (eqb (d .noted) 1) (stops d eto) (continues d)
 unfolding returned choose
-agreeing d f e = rw e (chosen Own (eqb (d .noted) 1) _ _ (λ e. inl refl) (λ e. inr refl))
+agreeing d f e = rw e
+
+pub own-not-passed : OwnNotPassed
+own-not-passed d f s i = rw (own-returned d f s i) (go (agrees f (d .last)) refl)
   where
     Own : Sent → Type 0
-    Own x = (x ≡ stops d eto) ⊎ (x ≡ continues d)
+    Own x = (x ≡ stops d ete) ⊎ ((x ≡ stops d eto) ⊎ (x ≡ continues d))
+
+    go : (b : Bool) → agrees f (d .last) ≡ b → Own (returned d f)
+    go true e =
+        rw (agreeing d f e) (chosen Own (eqb (d .noted) 1) _ _ (λ n. inr (inl refl)) (λ n. inr (inr refl)))
+    go false e = inl (differing d f e)
 
 -- C1 set where it was clear leaves data bits and C2
 c1-set : (d : Device) (f : ℕ) → (HasC1 f → ⊥) → returned d (f + c1) ≡ returned d f
@@ -95,8 +93,9 @@ pub own-compared : OwnCompared
 own-compared d f s i =
     record {
       bits-differ = λ n. own ∙ differing d f (rw (ne-eqb (dataBits f) (dataBits (d .last)) n));
-      end-differs = λ n. own ∙ differing d f (rw (ne-eqb (endBit f) (endBit (d .last)) n, and-false));
-      agreed = λ b e. rw own (agreeing d f (rw (eq-eqb (dataBits f) _ b, eq-eqb (endBit f) _ e)));
+      end-differs =
+          λ n. own ∙ differing d f (rw (ne-eqb (endBit f) (endBit (d .last)) (λ e. n (omega (arith, e))), and-false));
+      agreed = λ b e. own ∙ agreeing d f (rw (eq-eqb (dataBits f) _ b, eq-eqb (endBit f) _ e));
       c1-uncounted =
           set-or-not (λ g. takes d g ≡ takes d f) f (λ h. refl)
           (λ n. own-returned d (f + c1) s (record { past = omega (arith, i .past) }) ∙ c1-set d f n ∙ sym own);

@@ -3,9 +3,11 @@
 use Prim.Native.Nat.{ℕ, _≤_, _<_, _/_, _%_}
 use mathlib.Core.Path.{_≡_}
 use mathlib.Core.Logic.{_⊎_}
+use lib.Dec.{eqb}
 use Rattle.frame.specs.declared.Kind.{Kind}
 use Rattle.frame.specs.declared.Kind.the-variants.{Lad, Tad, Aad}
 use Rattle.frame.specs.Messages.{kindAt, numberOf}
+use Rattle.device.specs.Choose.{choose}
 use Rattle.device.specs.Device.{idle, addressed, asking, noAddress}
 use Rattle.device.specs.Change.{talking}
 use Rattle.device.specs.Reply.{eto, ete, c1, sends, withC1, stops, continues}
@@ -53,12 +55,13 @@ OwnNotPassed =
     (d : Device) (f : ℕ) → Sending d → IsData f →
     (takes d f ≡ stops d ete) ⊎ ((takes d f ≡ stops d eto) ⊎ (takes d f ≡ continues d))
 
--- It is held to the last frame sent (02, b): ETE where a data bit or C2 differs, and only there; C1 does not count.
+-- It is held to the last frame sent (02, b): ETE where a data bit or C2 differs; where they agree, ETO if NRD was
+-- noted, else the next byte, or ETO if nothing is left. C1 does not count.
 pub record Compared (d : Device) (f : ℕ) : Type 0 where
   pub bits-differ : (dataBits f ≡ dataBits (d .last) → ⊥) → takes d f ≡ stops d ete
   pub end-differs : (endBit f ≡ endBit (d .last) → ⊥) → takes d f ≡ stops d ete
   pub agreed : dataBits f ≡ dataBits (d .last) → endBit f ≡ endBit (d .last) →
-      (takes d f ≡ stops d eto) ⊎ (takes d f ≡ continues d)
+      takes d f ≡ choose (eqb (d .noted) 1) (stops d eto) (continues d)
   pub c1-uncounted : takes d (withC1 f) ≡ takes d f
 
 abbrev pub OwnCompared : Type 0
