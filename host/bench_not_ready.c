@@ -33,7 +33,7 @@ static unsigned right_round(unsigned frame)
     struct pil_taken out = pil_take(loop, sizeof loop);
     accepted(out.refusal, "take");
     if (is_data(out.frame))
-        got[strlen(got)] = (char)(out.frame & PIL_DATA_BITS);
+        got[strlen(got)] = (char)pil_decode(out.frame).offset; /* a byte's data bits */
     printf("  %s %03x -> %s %03x: %s, %u of %u sent, got \"%s\"\n", pil_kind_names[pil_decode(frame).kind], frame,
            pil_kind_names[pil_decode(out.frame).kind], out.frame, pil_talker_texts[meter[PIL_RECORD_TALKER]],
            meter[PIL_RECORD_SENT], meter[PIL_RECORD_DATA_LENGTH], got);
@@ -50,10 +50,10 @@ static void load(const char *text)
 static void talk(const char *title, unsigned not_ready, unsigned damaged, unsigned bit)
 {
     printf("%s:\n", title);
-    unsigned frame = right_round(pil_encode(PIL_KIND_SDA, 0).frame);
+    unsigned frame = right_round(pil_encode(PIL_KIND_SDA, 0, 0).frame);
     for (unsigned byte = 1; is_data(frame); byte++) {
         if (byte == not_ready)
-            right_round(pil_encode(PIL_KIND_NRD, 0).frame);
+            right_round(pil_encode(PIL_KIND_NRD, 0, 0).frame);
         frame = right_round(byte == damaged ? frame ^ bit : frame);
     }
 }
@@ -66,7 +66,7 @@ int main(void)
     items[PIL_ITEM_AT(METER) + PIL_ITEM_FIXED] = ADDRESS;
     accepted(pil_set_up(loop, sizeof loop, items, sizeof items), "set-up");
     load("1.503");
-    right_round(pil_encode(PIL_KIND_TAD, ADDRESS).frame);
+    right_round(pil_encode(PIL_KIND_TAD, ADDRESS, 0).frame);
     talk("NRD while the second byte is under way", 2, NEVER, 0);
     talk("SDA goes on at the next byte", NEVER, NEVER, 0);
     talk("SDA when all is sent", NEVER, NEVER, 0);

@@ -64,7 +64,7 @@ int main(void)
     accepted(pil_set_up(loop, sizeof loop, items, sizeof items), "set-up");
     accepted(pil_load(loop, sizeof loop, METER, (const uint8_t *)"1.503 V", strlen("1.503 V")), "load");
     for (unsigned i = 0; i < sizeof script / sizeof *script; i++) {
-        struct pil_encoded encoded = pil_encode(script[i][0], script[i][1]);
+        struct pil_encoded encoded = pil_encode(script[i][0], script[i][1], 0);
         accepted(encoded.refusal, "encode");
         frame = right_round(encoded.frame);
     }

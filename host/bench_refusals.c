@@ -45,8 +45,8 @@ static void damaged(size_t at, uint8_t expected, const char *what)
 
 int main(void)
 {
-    const unsigned frames[PIL_LINK_DEPTH] = {pil_encode(PIL_KIND_TAD, METER_ADDRESS).frame,
-        pil_encode(PIL_KIND_SDA, 0).frame, pil_encode(PIL_KIND_IDY, 0).frame, pil_encode(PIL_KIND_IDY, 0).frame};
+    const unsigned idy = pil_encode(PIL_KIND_IDY, 0, 0).frame, frames[PIL_LINK_DEPTH] = {
+        pil_encode(PIL_KIND_TAD, METER_ADDRESS, 0).frame, pil_encode(PIL_KIND_SDA, 0, 0).frame, idy, idy};
     uint8_t items[PIL_ITEMS_LENGTH(DEVICES)] = {0}, *lent = loop;
 
     items[PIL_ITEM_AT(METER) + PIL_ITEM_ABILITIES] = PIL_ABILITY_DATA;
@@ -60,7 +60,7 @@ int main(void)
             "set up a device with service request and without status");
     refused(pil_hop(loop, sizeof loop, DEVICES).refusal, PIL_NO_DEVICE,
             "counted devices from 1, and hopped device 2 of devices 0 and 1");
-    refused(pil_encode(PIL_KIND_LAD, loop[PIL_RECORD_AT(PRINTER) + PIL_RECORD_ADDRESS]).refusal, PIL_BAD_FRAME,
+    refused(pil_encode(PIL_KIND_LAD, loop[PIL_RECORD_AT(PRINTER) + PIL_RECORD_ADDRESS], 0).refusal, PIL_BAD_FRAME,
             "encoded LAD for a printer that was given no address yet");
     for (unsigned i = 0; i < PIL_LINK_DEPTH; i++)
         accepted(pil_put(loop, sizeof loop, frames[i]), "put");

@@ -28,14 +28,14 @@ static unsigned right_round(unsigned frame)
 
 static unsigned send_frame(unsigned kind, unsigned number)
 {
-    accepted(pil_encode(kind, number).refusal, "encode");
-    return right_round(pil_encode(kind, number).frame);
+    accepted(pil_encode(kind, number, 0).refusal, "encode"); /* with C1 0, so that a C1 that comes out is a device's */
+    return right_round(pil_encode(kind, number, 0).frame);
 }
 
 static void show(const char *when)
 {
-    const char *service = pil_service_texts[loop[PIL_RECORD_AT(ASKER) + PIL_RECORD_SERVICE]];
-    printf("%s: device %d %s, IDY 600 -> %03x\n", when, ASKER, service, send_frame(PIL_KIND_IDY, 0));
+    unsigned now = loop[PIL_RECORD_AT(ASKER) + PIL_RECORD_SERVICE], out = send_frame(PIL_KIND_IDY, 0);
+    printf("%s: device %d %s, IDY 600 -> %03x, C1 %u\n", when, ASKER, pil_service_texts[now], out, pil_decode(out).c1);
 }
 
 /* Asks each device for its status. A bit of the status byte tells who asked; C1 on it does not, since any device that
@@ -47,7 +47,7 @@ static void serial_poll(void)
         unsigned status = send_frame(PIL_KIND_SST, 0);
         unsigned end = right_round(status); /* goes back to its talker, which ends the reply */
         printf("poll of address %u: SST -> %03x, then %s%s\n", address, status, pil_kind_names[pil_decode(end).kind],
-               status & STATUS_ASKED ? ": asked for service" : "");
+               pil_decode(status).offset & STATUS_ASKED ? ": asked for service" : "");
     }
     show("after the poll");
 }

@@ -16,7 +16,7 @@ struct calls {
     uint8_t (*wish)(uint8_t *, size_t, uint64_t, uint64_t);
     struct pil_drained (*drain)(uint8_t *, size_t, uint64_t);
     struct pil_decoded (*decode)(uint64_t);
-    struct pil_encoded (*encode)(uint64_t, uint64_t);
+    struct pil_encoded (*encode)(uint64_t, uint64_t, uint64_t);
 };
 
 static const struct calls both[2] = {

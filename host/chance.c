@@ -131,7 +131,7 @@ unsigned frame_at(const uint8_t *bytes)
 
 static unsigned code(unsigned kind)
 {
-    return model_encode(kind, 0).frame;
+    return model_encode(kind, 0, 0).frame;
 }
 
 static const uint8_t *chance_record(const uint8_t *area)

@@ -26,7 +26,7 @@ enum {
     DEFAULT_SEED = 20240,
     DEFAULT_CALLS = 1100000,
     FULL_RUN = 1000000, /* calls from which on the counts below are demanded */
-    LEAST = 100, /* how often each refusal must be given, and a byte come back in each way */
+    LEAST = 100, /* how often each refusal must be given, a byte come back and a message be encoded in each way */
     REFUSALS = PIL_BUSY + 1,
     TALKERS = PIL_TALKER_ACCESSORY + 1,
     REASONS = PIL_STOP_HANDED + 1
@@ -34,6 +34,9 @@ enum {
 
 /* How a byte comes back to the device that sent it: the control bits in which it differs, or a data bit. */
 enum returned { AS_SENT, OTHER_C1, OTHER_C2, OTHER_C1_AND_C2, OTHER_DATA, RETURNED };
+
+/* How an encoding ends: accepted, or refused for one cause alone or for several. */
+enum encoding { WITH_C1_0, WITH_C1_1, BAD_KIND, BAD_OFFSET, C1_OVER_1, C1_WITHOUT_ONE, SEVERAL_CAUSES, ENCODINGS };
 
 enum which { SET_UP, PUT, HOP, TAKE, LOAD, STATUS, WISH, DRAIN, DECODE, ENCODE, WHICH };
 
@@ -46,19 +49,21 @@ struct call {
     size_t area_len;
     uint64_t number; /* frame, device, budget or kind */
     uint64_t second; /* status, wish or offset */
+    uint64_t third;  /* C1 */
     size_t input_len;
 };
 
 /* Every field that any call answers. */
 struct answer {
-    uint64_t refusal, frame, handed, byte, end, hops, reason, device, kind;
+    uint64_t refusal, frame, handed, byte, end, hops, reason, device, kind, offset, c1;
 };
 
 static uint8_t rooms[2][ROOM], before[ROOM];
 static uint8_t input[INPUT_ROOM], input_before[INPUT_ROOM];
 static uint64_t seed = DEFAULT_SEED, wanted = DEFAULT_CALLS, made;
 static const struct call *under_way;
-static uint64_t refusals[REFUSALS], talkers[TALKERS], reasons[REASONS], returned[RETURNED], calls_of[WHICH];
+static uint64_t refusals[REFUSALS], talkers[TALKERS], reasons[REASONS], returned[RETURNED], encodings[ENCODINGS];
+static uint64_t calls_of[WHICH];
 
 /* The history under way: its number of devices, the frame taken last, whether many frames are under way. */
 static unsigned n, taken;
@@ -94,7 +99,7 @@ static struct answer taken_answer(struct pil_taken t)
 
 static struct answer decoded_answer(struct pil_decoded d)
 {
-    return (struct answer){.refusal = d.refusal, .kind = d.kind};
+    return (struct answer){.refusal = d.refusal, .kind = d.kind, .offset = d.offset, .c1 = d.c1};
 }
 
 static struct answer encoded_answer(struct pil_encoded e)
@@ -122,7 +127,7 @@ static struct answer make(int side, const struct call *c)
     case WISH: return refusal_answer(of->wish(area, c->area_len, c->number, c->second));
     case DRAIN: return drained_answer(of->drain(area, c->area_len, c->number));
     case DECODE: return decoded_answer(of->decode(c->number));
-    default: return encoded_answer(of->encode(c->number, c->second));
+    default: return encoded_answer(of->encode(c->number, c->second, c->third));
     }
 }
 
@@ -131,8 +136,10 @@ static struct answer make(int side, const struct call *c)
 static void print_answer(int side, const struct answer *a)
 {
     printf("  %-5s answers refusal %" PRIu64 " frame %03" PRIx64 " handed %" PRIu64 " byte %02" PRIx64
-           " end %" PRIu64 " hops %" PRIu64 " reason %" PRIu64 " device %" PRIu64 " kind %" PRIu64 "\n",
-           both[side].name, a->refusal, a->frame, a->handed, a->byte, a->end, a->hops, a->reason, a->device, a->kind);
+           " end %" PRIu64 " hops %" PRIu64 " reason %" PRIu64 " device %" PRIu64 " kind %" PRIu64 " offset %" PRIu64
+           " C1 %" PRIu64 "\n",
+           both[side].name, a->refusal, a->frame, a->handed, a->byte, a->end, a->hops, a->reason, a->device, a->kind,
+           a->offset, a->c1);
 }
 
 static void print_bytes(const char *what, const uint8_t *bytes, size_t length)
@@ -153,11 +160,16 @@ static void print_first_difference(const char *what, const uint8_t *a, const uin
     printf("  no differing byte, %s\n", what);
 }
 
-static _Noreturn void differs(const char *how, const struct call *c, const struct answer answers[2])
+static void print_call(const char *how, const struct call *c)
 {
     printf("difference at call %" PRIu64 " of seed %" PRIu64 ": %s\n", made, seed, how);
-    printf("  %s, area length %zu, number %" PRIu64 ", second %" PRIu64 ", input length %zu\n", names[c->which],
-           c->area_len, c->number, c->second, c->input_len);
+    printf("  %s, area length %zu, number %" PRIu64 ", second %" PRIu64 ", third %" PRIu64 ", input length %zu\n",
+           names[c->which], c->area_len, c->number, c->second, c->third, c->input_len);
+}
+
+static _Noreturn void differs(const char *how, const struct call *c, const struct answer answers[2])
+{
+    print_call(how, c);
     print_answer(PIL, &answers[PIL]);
     print_answer(MODEL, &answers[MODEL]);
     print_first_difference("pil's area and the model's", rooms[PIL], rooms[MODEL], GUARD);
@@ -204,6 +216,18 @@ static void count_hop(unsigned device)
         returned[other & PIL_DATA_BITS ? OTHER_DATA : other / PIL_C1]++;
 }
 
+/* The cause of a refusal shows when the others are taken away: C1 made 0, then the offset. */
+static enum encoding encoding(const struct call *c, const struct answer *a)
+{
+    if (a->refusal == PIL_ACCEPTED)
+        return c->third ? WITH_C1_1 : WITH_C1_0;
+    if (model_encode(c->number, c->second, 0).refusal == PIL_ACCEPTED)
+        return c->third > 1 ? C1_OVER_1 : C1_WITHOUT_ONE;
+    if (c->third != 0)
+        return SEVERAL_CAUSES;
+    return model_encode(c->number, 0, 0).refusal == PIL_ACCEPTED ? BAD_OFFSET : BAD_KIND;
+}
+
 static void count_answer(const struct call *c, const struct answer *a)
 {
     calls_of[c->which]++;
@@ -212,6 +236,8 @@ static void count_answer(const struct call *c, const struct answer *a)
         reasons[a->reason]++;
     if (c->which == HOP && a->refusal == PIL_ACCEPTED)
         count_hop((unsigned)c->number);
+    if (c->which == ENCODE)
+        encodings[encoding(c, a)]++;
 }
 
 /* A refused call alters nothing, an accepted one nothing beyond the area: no model is needed to see this. */
@@ -496,6 +522,60 @@ static void damaged_call(void)
     }
 }
 
+/* Decodings and encodings. */
+
+static struct call decode_call(uint64_t frame)
+{
+    return (struct call){.which = DECODE, .number = frame};
+}
+
+static struct call encode_call(uint64_t kind, uint64_t offset, uint64_t c1)
+{
+    return (struct call){.which = ENCODE, .number = kind, .second = offset, .third = c1};
+}
+
+/* Decoder and encoder undo each other, but for kind 0: no model is needed to see this. */
+static void there_and_back(struct call c)
+{
+    struct answer there = compare_call(&c), back;
+    int same;
+
+    if (there.refusal != PIL_ACCEPTED || (c.which == DECODE && there.kind == PIL_KIND_NONE))
+        return;
+    if (c.which == DECODE) {
+        struct call undo = encode_call(there.kind, there.offset, there.c1);
+
+        back = compare_call(&undo);
+        same = back.frame == c.number;
+    } else {
+        struct call undo = decode_call(there.frame);
+
+        back = compare_call(&undo);
+        same = back.kind == c.number && back.offset == c.second && back.c1 == c.third;
+    }
+    if (back.refusal != PIL_ACCEPTED || !same) {
+        print_call("not undone by the call the other way", &c);
+        print_answer(PIL, &there);
+        print_answer(PIL, &back);
+        exit(1);
+    }
+}
+
+static uint64_t sometimes_wild(uint64_t good)
+{
+    return one_in(4) ? wild_number(good) : good;
+}
+
+static struct call code_call(void)
+{
+    uint64_t frame = sometimes_wild(below(PIL_FRAMES)), kind = sometimes_wild(below(PIL_KINDS));
+    uint64_t offset = sometimes_wild(one_in(2) ? 0 : below(0x110)), c1 = below(2);
+
+    if (one_in(4))
+        return decode_call(frame);
+    return encode_call(kind, offset, one_in(2) ? wild_number(c1) : c1);
+}
+
 /* Histories. */
 
 static _Noreturn void wrong_material(const char *what)
@@ -547,34 +627,51 @@ static void history(void)
         case 2:
         case 3: damaged_call(); break;
         case 4: bad_items_call(); break;
+        case 5: there_and_back(code_call()); break;
         default: go_on();
         }
     }
 }
 
-/* Codes. */
+/* All codes. */
 
-static void compare_code(enum which which, uint64_t number, uint64_t second)
+/* A kind and an offset with C1 right, wrong, and right when its high bits are cut off. */
+static void encode_with_each_c1(uint64_t kind, uint64_t offset)
 {
-    struct call c = {.which = which, .number = number, .second = second};
+    static const uint64_t c1s[] = {0, 1, 2, 3, 255, 256, 257, (uint64_t)1 << 32, ((uint64_t)1 << 32) + 1,
+                                   (uint64_t)1 << 63, UINT64_MAX};
 
-    compare_call(&c);
+    for (unsigned i = 0; i < sizeof c1s / sizeof *c1s; i++)
+        there_and_back(encode_call(kind, offset, c1s[i]));
 }
 
-static void compare_codes(void)
+static void compare_small_codes(void)
 {
     for (unsigned frame = 0; frame <= 2100; frame++)
-        compare_code(DECODE, frame, 0);
+        there_and_back(decode_call(frame));
     for (unsigned kind = 0; kind <= 50; kind++)
         for (unsigned offset = 0; offset <= 0x210; offset++)
-            compare_code(ENCODE, kind, offset);
-    for (unsigned i = 0; i < 20000; i++) {
-        uint64_t kind = below(PIL_KINDS), offset = below(0x200);
+            encode_with_each_c1(kind, offset);
+}
 
-        compare_code(DECODE, wild_number(below(PIL_FRAMES)), 0);
-        compare_code(ENCODE, wild_number(kind), offset);
-        compare_code(ENCODE, kind, wild_number(offset));
+static void compare_with_wide_number(uint64_t wide)
+{
+    there_and_back(decode_call(wide));
+    encode_with_each_c1(wide, 0);
+    for (unsigned kind = 0; kind <= PIL_KINDS; kind++) {
+        encode_with_each_c1(kind, wide);
+        there_and_back(encode_call(kind, 0, wide));
     }
+}
+
+/* Numbers near the powers of two from 2^8 to 2^64: a cut to fewer bits would show. */
+static void compare_wide_codes(void)
+{
+    static const uint64_t small[] = {UINT64_MAX, 0, 1, 2, PIL_KIND_LAD, PIL_NO_ADDRESS, PIL_KIND_IDY, 0x141};
+
+    for (unsigned bits = 8; bits <= 64; bits++)
+        for (unsigned i = 0; i < sizeof small / sizeof *small; i++)
+            compare_with_wide_number((bits < 64 ? (uint64_t)1 << bits : 0) + small[i]);
 }
 
 static void compare_table(void)
@@ -620,6 +717,9 @@ static int report(void)
     enough &= report_counts("reasons of drains", reasons, 0, REASONS, 1);
     enough &= report_counts("bytes come back as sent (0), with another C1 (1), C2 (2), both (3), data (4)", returned, 0,
                             RETURNED, LEAST);
+    enough &= report_counts("encodings accepted with C1 0 (0), with C1 1 (1), refused for the kind (2), the offset "
+                            "(3), a C1 over 1 (4), a C1 of 1 on a kind without one (5), several causes (6)", encodings,
+                            0, ENCODINGS, LEAST);
     return enough;
 }
 
@@ -640,7 +740,8 @@ int main(int argc, char **argv)
     chance_seed(seed);
     while (made < wanted)
         history();
-    compare_codes();
+    compare_small_codes();
+    compare_wide_codes();
     enough = report();
     compare_table();
     order_histories(seed, wanted / 500);

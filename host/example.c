@@ -38,7 +38,7 @@ static unsigned right_round(unsigned frame)
 
 static unsigned send_frame(unsigned kind, unsigned number)
 {
-    struct pil_encoded encoded = pil_encode(kind, number);
+    struct pil_encoded encoded = pil_encode(kind, number, 0);
 
     accepted(encoded.refusal, "encode");
     return right_round(encoded.frame);
@@ -80,8 +80,12 @@ static void give_addresses(unsigned first)
     printf("AAD %u: addresses", first);
     for (unsigned i = 0; i < METERS; i++)
         printf(" %u", loop[PIL_RECORD_AT(i) + PIL_RECORD_ADDRESS]);
-    printf(", next free %u, most talkers at one address %u\n", out - pil_encode(PIL_KIND_AAD, 0).frame,
-           most_talkers());
+    printf(", next free %u, most talkers at one address %u\n", pil_decode(out).offset, most_talkers());
+}
+
+static int is_data(unsigned frame)
+{
+    return pil_decode(frame).kind == PIL_KIND_DAB || pil_decode(frame).kind == PIL_KIND_END;
 }
 
 /* Reads what answers at an address, till its end of transmission. */
@@ -96,8 +100,8 @@ static void read_address(unsigned address)
             printf(" %u", i);
     printf(", reading ");
     /* Each byte goes back to the talker, which compares it and sends the next. */
-    for (frame = send_frame(PIL_KIND_SDA, 0); (frame & PIL_C3) == 0; frame = right_round(frame))
-        putchar((int)(frame & PIL_DATA_BITS));
+    for (frame = send_frame(PIL_KIND_SDA, 0); is_data(frame); frame = right_round(frame))
+        putchar(pil_decode(frame).offset);
     printf(", end %03x\n", frame);
     send_frame(PIL_KIND_UNT, 0);
 }

@@ -119,20 +119,64 @@ static unsigned kind_of(unsigned frame)
     }
 }
 
-struct pil_decoded model_decode(uint64_t frame)
+/* The kinds with a bit for a service request: 001, the message table. */
+static int has_c1(uint64_t kind)
 {
-    if (frame >= PIL_FRAMES)
-        return (struct pil_decoded){.refusal = PIL_BAD_FRAME};
-    return (struct pil_decoded){.kind = (uint8_t)kind_of((unsigned)frame)};
+    return kind == PIL_KIND_DAB || kind == PIL_KIND_END || kind == PIL_KIND_IDY;
 }
 
-struct pil_encoded model_encode(uint64_t kind, uint64_t offset)
+struct decoded {
+    unsigned kind, offset, c1;
+};
+
+/* What a frame of the kind says (02, g): no other place takes offset or C1 out of a frame. The kind is given, so that a
+   rule that was reached by its kind looks nothing up. */
+static inline struct decoded decoded(unsigned kind, unsigned frame)
 {
-    if (kind == PIL_KIND_NONE || kind >= PIL_KINDS)
+    unsigned data_bits = PIL_DATA_BITS | (MODEL_FAULT == 6 ? PIL_C1 : 0);
+
+    if (has_c1(kind))
+        return (struct decoded){kind, frame & data_bits, (frame & PIL_C1) != 0};
+    return (struct decoded){kind, kind == PIL_KIND_NONE ? 0 : frame - messages[kind].first, 0};
+}
+
+/* What a DAB or END says. */
+static inline struct decoded decoded_byte(unsigned frame)
+{
+    return frame < messages[PIL_KIND_END].first ? decoded(PIL_KIND_DAB, frame) : decoded(PIL_KIND_END, frame);
+}
+
+struct pil_decoded model_decode(uint64_t frame)
+{
+    struct decoded d;
+
+    if (frame >= PIL_FRAMES)
+        return (struct pil_decoded){.refusal = PIL_BAD_FRAME};
+    d = decoded(kind_of((unsigned)frame), (unsigned)frame);
+    return (struct pil_decoded){.kind = (uint8_t)d.kind, .offset = (uint16_t)d.offset, .c1 = (uint8_t)d.c1};
+}
+
+/* Codes with C1 have the offsets of those without. */
+static unsigned last_offset(uint64_t kind)
+{
+    unsigned last = (unsigned)(messages[kind].last - messages[kind].first);
+
+    return has_c1(kind) ? last - PIL_C1 : last;
+}
+
+/* C1 is 0 or 1, and 0 on a kind without one. */
+static int c1_allowed(uint64_t kind, uint64_t c1)
+{
+    uint64_t seen = MODEL_FAULT == 8 ? c1 % 256 : c1;
+
+    return seen == 0 || (seen == 1 && (has_c1(kind) || MODEL_FAULT == 7));
+}
+
+struct pil_encoded model_encode(uint64_t kind, uint64_t offset, uint64_t c1)
+{
+    if (kind == PIL_KIND_NONE || kind >= PIL_KINDS || offset > last_offset(kind) || !c1_allowed(kind, c1))
         return (struct pil_encoded){.refusal = PIL_BAD_FRAME};
-    if (offset > (uint64_t)(messages[kind].last - messages[kind].first))
-        return (struct pil_encoded){.refusal = PIL_BAD_FRAME};
-    return (struct pil_encoded){.frame = (uint16_t)(messages[kind].first + offset)};
+    return (struct pil_encoded){.frame = (uint16_t)(messages[kind].first + offset + PIL_C1 * c1)};
 }
 
 /* Soundness: 01, The lent area. */
@@ -375,13 +419,13 @@ static void auto_address_unconfigure(uint8_t *r)
 }
 
 /* Gives the frame sent. */
-static unsigned auto_address(uint8_t *r, unsigned frame)
+static unsigned auto_address(uint8_t *r, unsigned address, unsigned frame)
 {
     if (r[PIL_RECORD_CONFIGURED] && MODEL_FAULT != 1)
         return frame;
     if (!(r[PIL_RECORD_ABILITIES] & PIL_ABILITY_AUTO_ADDRESS))
         return frame;
-    r[PIL_RECORD_ADDRESS] = (uint8_t)(frame - messages[PIL_KIND_AAD].first);
+    r[PIL_RECORD_ADDRESS] = (uint8_t)address;
     r[PIL_RECORD_CONFIGURED] = 1;
     return frame + 1;
 }
@@ -442,9 +486,10 @@ static unsigned asked_to_send(uint8_t *r, unsigned talker, unsigned frame)
 /* A byte come back agrees with the last frame sent in its data bits and C2 (02, b). Any device may have set C1. */
 static int agrees(const uint8_t *r, unsigned frame)
 {
-    unsigned counts = PIL_DATA_BITS | (MODEL_FAULT == 4 ? 0 : PIL_C2) | (MODEL_FAULT == 5 ? PIL_C1 : 0);
+    struct decoded back = decoded_byte(frame), sent = decoded_byte(get16(r + PIL_RECORD_LAST));
 
-    return (frame & counts) == (get16(r + PIL_RECORD_LAST) & counts);
+    return back.offset == sent.offset && (MODEL_FAULT == 4 || back.kind == sent.kind)
+        && (MODEL_FAULT != 5 || back.c1 == sent.c1);
 }
 
 static unsigned own_byte_returned(uint8_t *r, unsigned frame)
@@ -472,8 +517,8 @@ static struct pil_hopped data_or_end(uint8_t *r, unsigned frame)
     hopped.frame = (uint16_t)with_service_bit(r, frame);
     if (r[PIL_RECORD_LISTENER]) {
         hopped.handed = 1;
-        hopped.byte = (uint8_t)(frame & PIL_DATA_BITS);
-        hopped.end = (frame & PIL_C2) != 0;
+        hopped.byte = (uint8_t)decoded_byte(frame).offset;
+        hopped.end = decoded_byte(frame).kind == PIL_KIND_END;
     }
     return hopped;
 }
@@ -482,9 +527,9 @@ static struct pil_hopped data_or_end(uint8_t *r, unsigned frame)
 static void obey_command(uint8_t *r, unsigned kind, unsigned frame)
 {
     switch (kind) {
-    case PIL_KIND_LAD: listen_address(r, frame - messages[PIL_KIND_LAD].first); break;
+    case PIL_KIND_LAD: listen_address(r, decoded(PIL_KIND_LAD, frame).offset); break;
     case PIL_KIND_UNL: r[PIL_RECORD_LISTENER] = 0; break;
-    case PIL_KIND_TAD: talk_address(r, frame - messages[PIL_KIND_TAD].first); break;
+    case PIL_KIND_TAD: talk_address(r, decoded(PIL_KIND_TAD, frame).offset); break;
     case PIL_KIND_UNT: stop_sending(r, PIL_TALKER_IDLE); break;
     case PIL_KIND_IFC: interface_clear(r); break;
     case PIL_KIND_AAU: auto_address_unconfigure(r); break;
@@ -506,7 +551,7 @@ static unsigned command_ready_or_identify(uint8_t *r, unsigned kind, unsigned fr
     case PIL_KIND_SST: return asked_to_send(r, PIL_TALKER_STATUS, frame);
     case PIL_KIND_SDI: return asked_to_send(r, PIL_TALKER_ID, frame);
     case PIL_KIND_SAI: return asked_to_send(r, PIL_TALKER_ACCESSORY, frame);
-    case PIL_KIND_AAD: return auto_address(r, frame);
+    case PIL_KIND_AAD: return auto_address(r, decoded(PIL_KIND_AAD, frame).offset, frame);
     case PIL_KIND_IDY: return with_service_bit(r, frame);
     case PIL_KIND_NRD: note_not_ready(r); return frame;
     default: obey_command(r, kind, frame); return frame;

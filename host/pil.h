@@ -1,7 +1,7 @@
 /* The C interface of the loop model: the calls of libpil.a, the numbers they answer, and the layout of the area
-   that a bench lends to them. Every number of this file but the version is fixed by paper 01; what devices do with
-   frames is told in docs/RULES.md of the repository, and pil_names.h has names of kinds, refusals, stops and states.
-   For C99 and C++.
+   that a bench lends to them. Every number of this file but the version is fixed by the papers 01 and 02; what devices
+   do with frames is told in docs/RULES.md of the repository, and pil_names.h has names of kinds, refusals, stops and
+   states. For C99 and C++.
 
    A call allocates nothing and keeps nothing outside the area that it is lent: a copy of the area's bytes is a copy of
    the loop, and different areas may be used by different threads at once (one area by one thread at a time). An area
@@ -13,8 +13,8 @@
 #include <stdint.h>
 
 /* The version: the first number rises where a bench has to be changed, the second where something is added. */
-#define PIL_VERSION_MAJOR 1
-#define PIL_VERSION_MINOR 1
+#define PIL_VERSION_MAJOR 2
+#define PIL_VERSION_MINOR 0
 #define PIL_VERSION_PATCH 0
 #define PIL_VERSION (PIL_VERSION_MAJOR * 10000 + PIL_VERSION_MINOR * 100 + PIL_VERSION_PATCH)
 
@@ -29,7 +29,8 @@ enum {
                            was not set up yet; at set-up items of another length */
     PIL_UNSOUND = 2,    /* the area's contents break a rule of "What is sound" below; at set-up an item does */
     PIL_NO_DEVICE = 3,  /* the device number is the number of devices or more */
-    PIL_BAD_FRAME = 4,  /* a frame over 2,047; a kind or offset outside the message table */
+    PIL_BAD_FRAME = 4,  /* a frame over 2,047; a kind or offset outside the message table, a C1 that is not 0 or 1, or a
+                           C1 of 1 on a kind without one */
     PIL_EMPTY = 5,      /* the link to take from holds no frame */
     PIL_FULL = 6,       /* the link to add to holds four frames */
     PIL_NO_ABILITY = 7, /* the device lacks the ability: data for a load, status for a status, service request for a
@@ -47,7 +48,7 @@ enum {
                             into the next link all the same */
 };
 
-/* Kinds of frame: the messages of the loop, by their codes. */
+/* Kinds of frame: the messages of the loop, by their codes. The number of a message, as 0-30, is its offset. */
 enum {
     PIL_KIND_NONE = 0,  /* no message */
     PIL_KIND_DAB = 1,   /* 000-1ff data byte */
@@ -247,13 +248,15 @@ struct pil_drained {
 
 /* What the decoder answers. */
 struct pil_decoded {
+    uint16_t offset; /* DAB, END, IDY: the data bits; kind 0: 0; others: the frame less the first code of its kind */
     uint8_t refusal; /* 0 if accepted */
     uint8_t kind;    /* the frame's kind */
+    uint8_t c1;      /* DAB, END, IDY: control bit C1, service asked for; other kinds have none: 0 */
 };
 
 /* What the encoder answers. */
 struct pil_encoded {
-    uint16_t frame;  /* the kind's first code plus the offset */
+    uint16_t frame;  /* the frame of that kind, offset and C1 */
     uint8_t refusal; /* 0 if accepted */
 };
 
@@ -287,10 +290,12 @@ uint8_t pil_wish(uint8_t *area, size_t area_len, uint64_t device, uint64_t wish)
    A budget of 2n(n + 1), 480 for fifteen devices, always suffices: no loop of n devices makes more hops without a put.
    The frames that devices send are not answered: they lie in the links, and come out at the tail. Gives 1, 2. */
 struct pil_drained pil_drain(uint8_t *area, size_t area_len, uint64_t budget);
-/* The kind of a frame; 0 where it is no message. Gives 4. */
+/* The kind of a frame, 0 where it is no message, its offset in the kind, and C1. Gives 4. */
 struct pil_decoded pil_decode(uint64_t frame);
-/* The frame of a kind 1-42 at an offset from its first code. Gives 4, as for LAD 31: no message has address 31. */
-struct pil_encoded pil_encode(uint64_t kind, uint64_t offset);
+/* The frame of a kind 1-42, an offset in the kind and C1: the one for which pil_decode answers these. DAB, END and IDY
+   have offsets 0-255 and C1 0 or 1, the other kinds offsets below the number of their codes and C1 0. Gives 4, as for
+   LAD 31: no message has address 31. */
+struct pil_encoded pil_encode(uint64_t kind, uint64_t offset, uint64_t c1);
 
 #ifdef __cplusplus
 }

@@ -56,7 +56,7 @@ static const char *const pil_refusal_texts[10] = {
     "shape: lengths do not fit, or no set-up yet",
     "unsound: the area or an item breaks a rule",
     "no device: its number is too high",
-    "bad frame: no such frame, kind or offset",
+    "bad frame: no such frame, kind, offset or C1",
     "empty: no frame to take",
     "full: no room for a frame",
     "no ability: the device cannot do that",

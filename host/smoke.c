@@ -1,5 +1,5 @@
-/* Runs the rows of 01 and 02, and 01's cases at the limits, through libpil.a, called as a bench calls it.
-   Prints each check that fails and exits 1, or one line that says how many held. */
+/* Runs the rows of 01 and 02, 01's cases at the limits and codes of 001's message table through libpil.a, called as a
+   bench calls it. Prints each check that fails and exits 1, or one line that says how many held. */
 #include "pil.h"
 
 #include <stdio.h>
@@ -125,8 +125,56 @@ static void limits(void)
     check("load 33", pil_load(area, sizeof area, 0, bytes, 33), PIL_TOO_LONG);
     check("15 devices", pil_set_up(longest, PIL_AREA_LENGTH(15), items, PIL_ITEMS_LENGTH(15)), PIL_ACCEPTED);
     check("16 devices", pil_set_up(longest, PIL_AREA_LENGTH(16), items, PIL_ITEMS_LENGTH(16)), PIL_SHAPE);
-    check("kind of 59f", pil_decode(0x59f).kind, PIL_KIND_IAA);
-    check("TAD 5", pil_encode(PIL_KIND_TAD, 5).frame, 0x445);
+}
+
+static void decodes(const char *what, uint64_t frame, unsigned kind, unsigned offset, unsigned c1)
+{
+    struct pil_decoded decoded = pil_decode(frame);
+
+    check(what, decoded.refusal, PIL_ACCEPTED);
+    check(what, decoded.kind, kind);
+    check(what, decoded.offset, offset);
+    check(what, decoded.c1, c1);
+}
+
+/* Encodes a message of the table, which the decoder has to give back. */
+static void encodes(const char *what, unsigned kind, unsigned offset, unsigned c1, unsigned frame)
+{
+    struct pil_encoded encoded = pil_encode(kind, offset, c1);
+
+    check(what, encoded.refusal, PIL_ACCEPTED);
+    check(what, encoded.frame, frame);
+    decodes(what, frame, kind, offset, c1);
+}
+
+static void not_encoded(const char *what, uint64_t kind, uint64_t offset, uint64_t c1)
+{
+    struct pil_encoded encoded = pil_encode(kind, offset, c1);
+
+    check(what, encoded.refusal, PIL_BAD_FRAME);
+    check(what, encoded.frame, 0);
+}
+
+static void codes(void)
+{
+    encodes("DAB 41", PIL_KIND_DAB, 0x41, 0, 0x041);
+    encodes("DAB 41, C1 1", PIL_KIND_DAB, 0x41, 1, 0x141);
+    encodes("END ff, C1 1", PIL_KIND_END, 0xff, 1, 0x3ff);
+    encodes("LAD 30", PIL_KIND_LAD, 30, 0, 0x43e);
+    encodes("UNL", PIL_KIND_UNL, 0, 0, 0x43f);
+    encodes("TAD 5", PIL_KIND_TAD, 5, 0, 0x445);
+    encodes("PPE 13", PIL_KIND_PPE, 13, 0, 0x48d);
+    encodes("IAA", PIL_KIND_IAA, 0, 0, 0x59f);
+    encodes("IDY 0, C1 1", PIL_KIND_IDY, 0, 1, 0x700);
+    encodes("IDY 255, C1 1", PIL_KIND_IDY, 255, 1, 0x7ff);
+    decodes("545, no message", 0x545, PIL_KIND_NONE, 0, 0);
+    check("decode 2,048", pil_decode(2048).refusal, PIL_BAD_FRAME);
+    not_encoded("kind 0", PIL_KIND_NONE, 0, 0);
+    not_encoded("kind 43", PIL_KINDS, 0, 0);
+    not_encoded("DAB 256", PIL_KIND_DAB, 256, 0);
+    not_encoded("LAD 31", PIL_KIND_LAD, 31, 0);
+    not_encoded("LAD 0, C1 1", PIL_KIND_LAD, 0, 1);
+    not_encoded("DAB 0, C1 2", PIL_KIND_DAB, 0, 2);
 }
 
 int main(void)
@@ -135,6 +183,7 @@ int main(void)
     data_rows();
     service_rows();
     limits();
+    codes();
     if (failed)
         return 1;
     printf("smoke: %d checks hold\n", held);

@@ -61,12 +61,10 @@ pub fn command(state: State, rec: &[u8], frame: u16) -> State
     requires { ⌜ (length (now rec) ≡ recordSize) × IsCommand frame ⌝ }
     ensures { λ r. ⌜ sends (inRecord (now (rec .entry)) r) frame ≡ takes (inRecord (now (rec .entry)) state) frame ⌝ }
 {
-    // LAD and TAD start at multiples of 32, so the low five bits are the message's number.
-    let number = (frame % 32) as u8;
     match frame::kind_of(frame) {
-        Kind::Lad => lad(state, rec, number),
+        Kind::Lad => lad(state, rec, frame::offset_of(Kind::Lad, frame)),
         Kind::Unl => state.listening(0),
-        Kind::Tad => tad(state, rec, number),
+        Kind::Tad => tad(state, rec, frame::offset_of(Kind::Tad, frame)),
         Kind::Unt => state.talking(Device::IDLE),
         Kind::Ifc => state.roles(0, Device::IDLE),
         Kind::Aau => aau(state, rec),

@@ -1,8 +1,7 @@
 // Data or end, and identify (01, What a device does with a frame; 02, b).
 use device::Device;
 use device::Handed;
-use reply::C1;
-use reply::C2;
+use frame::bits_of;
 use reply::ETE;
 use reply::ETO;
 use reply::continues;
@@ -13,27 +12,33 @@ use state::State;
 use state::sends;
 ghost use mathlib.Core.Path.{_≡_};
 ghost use lib.ListN.{length};
-ghost use Rattle.device.specs.Data.{agrees, returned, heard, dataOrEnd, idy};
+ghost use Rattle.frame.specs.Decoding.{decoded};
+ghost use Rattle.device.specs.Classes.{IsData, IsIdentify};
+ghost use Rattle.device.specs.Data.{agrees, returned, heard};
+ghost use Rattle.device.specs.Take.{takes};
 ghost use Rattle.device.specs.declared.Device.{Device};
 ghost use Rattle.record.specs.Record.{recordSize};
 ghost use Rattle.state.specs.State.{with, inRecord, sentWith, sentFrom};
 
 // C2 counts, which tells an END from a DAB; C1 does not, since any device may set it.
 fn agrees(frame: u16, last: u16) -> bool
-    ensures { λ r. ⌜ r ≡ agrees frame last ⌝ }
+    requires { ⌜ IsData frame ⌝ }
+    ensures { λ r. ⌜ r ≡ agrees (decoded frame) (decoded last) ⌝ }
 {
-    if frame % C1 != last % C1 {
+    let came = bits_of(frame);
+    let sent = bits_of(last);
+    if came.upper != sent.upper {
         return false;
     }
-    if frame / C2 % 2 != last / C2 % 2 {
+    if came.low != sent.low {
         return false;
     }
     true
 }
 
 fn returned(state: State, rec: &[u8], frame: u16) -> Passed
-    requires { ⌜ length (now rec) ≡ recordSize ⌝ }
-    ensures { λ r. ⌜ sentFrom (now (rec .entry)) r ≡ returned (inRecord (now (rec .entry)) state) frame ⌝ }
+    requires { ⌜ (length (now rec) ≡ recordSize) × IsData frame ⌝ }
+    ensures { λ r. ⌜ sentFrom (now (rec .entry)) r ≡ returned (inRecord (now (rec .entry)) state) (decoded frame) ⌝ }
 {
     if agrees(frame, state.last) {
         if state.noted == 1 {
@@ -45,14 +50,17 @@ fn returned(state: State, rec: &[u8], frame: u16) -> Passed
 }
 
 fn heard(state: State, frame: u16) -> Passed
-    ensures { λ r. ⌜ ((d : Device) → sentWith d r ≡ heard (with d state) frame) ⌝ }
+    requires { ⌜ IsData frame ⌝ }
+    ensures { λ r. ⌜ ((d : Device) → sentWith d r ≡ heard (with d state) (decoded frame)) ⌝ }
 {
-    let out = marked(state, frame);
+    let came = bits_of(frame);
+    let out = marked(state, frame, came.c1);
     if state.listener == 1 {
+        // Of a data byte C3 is 0, so that C3 C2 is the end bit.
         return Passed {
             state,
             frame: out,
-            handed: Handed::Byte((frame % C1) as u8, (frame / C2 % 2) as u8),
+            handed: Handed::Byte(came.low, came.upper),
         };
     }
     sends(state, out)
@@ -60,8 +68,8 @@ fn heard(state: State, frame: u16) -> Passed
 
 // What a device does with a data byte or an end byte.
 pub fn data_or_end(state: State, rec: &[u8], frame: u16) -> Passed
-    requires { ⌜ length (now rec) ≡ recordSize ⌝ }
-    ensures { λ r. ⌜ sentFrom (now (rec .entry)) r ≡ dataOrEnd (inRecord (now (rec .entry)) state) frame ⌝ }
+    requires { ⌜ (length (now rec) ≡ recordSize) × IsData frame ⌝ }
+    ensures { λ r. ⌜ sentFrom (now (rec .entry)) r ≡ takes (inRecord (now (rec .entry)) state) frame ⌝ }
 {
     if Device::ADDRESSED < state.talker {
         return returned(state, rec, frame);
@@ -71,7 +79,9 @@ pub fn data_or_end(state: State, rec: &[u8], frame: u16) -> Passed
 
 // IDY goes on in every state.
 pub fn identify(state: State, frame: u16) -> Passed
-    ensures { λ r. ⌜ ((d : Device) → sentWith d r ≡ idy (with d state) frame) ⌝ }
+    requires { ⌜ IsIdentify frame ⌝ }
+    ensures { λ r. ⌜ ((d : Device) → sentWith d r ≡ takes (with d state) frame) ⌝ }
 {
-    sends(state, marked(state, frame))
+    let came = bits_of(frame);
+    sends(state, marked(state, frame, came.c1))
 }

@@ -1,14 +1,18 @@
 -- Demand 1, call by call: the tests of a call are the conditions of the table that concern it.
-use Prim.Native.Nat.{ℕ, _+_, _*_}
+use Prim.Native.Nat.{ℕ, zero, suc, _+_, _*_}
 use mathlib.Core.Path.{_≡_, refl, ap, _∙_}
 use mathlib.Core.Bool.{Bool, true, false, not, cond, _&&_, _||_}
 use mathlib.Core.List.{List}
 use native.Mathlib.Omega.{arith}
 use lib.ListN.{length}
 use lib.Dec.{eqb, ltb, leb}
-use borrow.Author.Tests.{eqb-true, eqb-false, leb-true, le-leb, eq-eqb}
-use Rattle.frame.specs.Messages.{frames, kindAt, codesOf, firstOf}
-use Rattle.frame.specs.Coding.{decoding, decodeOf, encoding, encodeOf}
+use borrow.Author.Tests.{eqb-true, eqb-false, ltb-true, ltb-false, lt-ltb, le-ltb, leb-true, le-leb, lt-leb, eq-eqb}
+use Rattle.frame.specs.Messages.{frames}
+use Rattle.frame.specs.Decoding.{message, decoded as decoding, hasC1, offsetsOf, c1sOf, frameOf}
+use Rattle.frame.specs.Coding.{decodeOf, inList, encodeOf}
+use Rattle.frame.specs.declared.Decoded.the-variants as decoder
+use Rattle.frame.specs.declared.Encoded.the-variants as encoder
+use Rattle.coding.specs.Coding.{decodedAs, encodedAs}
 use Rattle.record_local.specs.Local.{loads, setsStatus, wishes}
 use Rattle.record.specs.Sound.{allowed}
 use Rattle.area.specs.Sizes.{areaSize, mostDevices, itemSize}
@@ -21,7 +25,7 @@ use Rattle.calls.specs.SetUp.{devicesFor, itemsFit, poweredOn, setUpOf}
 use Rattle.demands.specs.Calls.{Byte, numbers, Action, put, hop, take, load, status, wish, drain, Call, onArea}
 use Rattle.demands.specs.Calls.{setUp, decode, encode, Answer, plain, hopped, taken, drained, decoded, encoded}
 use Rattle.demands.specs.Calls.{pil, refusalIn, bare, acts}
-use Rattle.demands.specs.Conditions.{devicesAt, lowest}
+use Rattle.demands.specs.Conditions.{devicesAt, badC1, BadFrame, lowest}
 use Rattle.demands.specs.Demands.{Demand1}
 use Rattle.demands.proofs.Lengths.{found-at, at-is, shape-is, for-is}
 use Rattle.demands.proofs.Refusals.{Met, call-met, turned-lt}
@@ -180,24 +184,50 @@ unfolding decodeOf
 decode-held f a = rw (turned-lt f frames 4 0) (go (ltb f frames))
   where
     go : (t : Bool) → Held (decode f) a
-        (after (decoded (record {
-          refusal = (cond t (decoding 0 (kindAt f)) (decoding 4 0)) .refusal;
-          kind =
-              (cond t (decoding 0 (kindAt f)) (decoding 4 0)) .kind;
-        })) a) (cond t 0 4)
+        (after (decoded (decodedAs (cond t (decoder.Of (decoding f)) decoder.BadFrame))) a) (cond t 0 4)
     go true = record { refused = refl; unchanged = λ z. absurd (z refl) }
     go false = record { refused = refl; unchanged = λ z. (refl, refl) }
 
-encode-held : (k o : ℕ) (a : List ℕ) → Held (encode k o) a (pil (encode k o) a) (lowest (encode k o) a)
-unfolding encodeOf
-encode-held k o a = rw (turned-lt o (codesOf k) 4 0) (go (ltb o (codesOf k)))
+leb-turned : (m o : ℕ) → leb m o ≡ not (ltb o m)
+leb-turned m o = go (ltb o m) refl
   where
-    go : (t : Bool) → Held (encode k o) a
-        (after (encoded (record {
-          frame = (cond t (encoding 0 (firstOf k + o)) (encoding 4 0)) .frame;
-          refusal =
-              (cond t (encoding 0 (firstOf k + o)) (encoding 4 0)) .refusal;
-        })) a) (cond t 0 4)
+    go : (t : Bool) → ltb o m ≡ t → leb m o ≡ not t
+    go true e = lt-leb m o (ltb-true o m e)
+    go false e = le-leb m o (ltb-false o m e)
+
+-- a C1 outside the table is none of the values that the kind's C1 has
+c1-turned : (k c : ℕ) → badC1 k c ≡ not (ltb c (c1sOf k))
+unfolding c1sOf
+c1-turned k c = go c (hasC1 k) refl
+  where
+    go : (c : ℕ) (t : Bool) → hasC1 k ≡ t → badC1 k c ≡ not (ltb c (cond (hasC1 k) 2 1))
+    go zero true e = rw e
+    go zero false e = rw e
+    go (suc zero) true e = rw e
+    go (suc zero) false e = rw e
+    go (suc (suc zero)) true e = rw e
+    go (suc (suc zero)) false e = rw e
+    go (suc (suc (suc c))) true e =
+        rw (e, lt-ltb 1 (suc (suc (suc c))) (omega arith), le-ltb (suc (suc (suc c))) 2 (omega arith))
+    go (suc (suc (suc c))) false e =
+        rw (e, lt-ltb 1 (suc (suc (suc c))) (omega arith), le-ltb (suc (suc (suc c))) 1 (omega arith))
+
+either-turned : (s t : Bool) → (not s || not t) ≡ not (s && t)
+either-turned true t = refl
+either-turned false t = refl
+
+-- the encoder's row of the table is that they are not in the list
+outside : (k o c : ℕ) → BadFrame (encode k o c) ≡ not (inList (message k o c))
+outside k o c =
+    rw (leb-turned (offsetsOf k) o, c1-turned k c) (either-turned (ltb o (offsetsOf k)) (ltb c (c1sOf k)))
+
+encode-held : (k o c : ℕ) (a : List ℕ) → Held (encode k o c) a (pil (encode k o c) a) (lowest (encode k o c) a)
+unfolding encodeOf
+encode-held k o c a = rw (outside k o c) (go (inList (message k o c)))
+  where
+    go : (t : Bool) → Held (encode k o c) a
+        (after (encoded (encodedAs (cond t (encoder.Frame (frameOf (message k o c))) encoder.BadFrame))) a)
+        (cond (not t) 4 0)
     go true = record { refused = refl; unchanged = λ z. absurd (z refl) }
     go false = record { refused = refl; unchanged = λ z. (refl, refl) }
 
@@ -205,7 +235,7 @@ call-held : (c : Call) (a : List ℕ) → Held c a (pil c a) (lowest c a)
 call-held (onArea c) a = action-held a c
 call-held (setUp items) a = set-up-held a items
 call-held (decode f) a = decode-held f a
-call-held (encode k o) a = encode-held k o a
+call-held (encode k o c) a = encode-held k o c a
 
 pub demand-1 : Demand1
 demand-1 = record { by-table = λ c a. call-held c a .refused; changes-nothing = λ c a. call-held c a .unchanged }

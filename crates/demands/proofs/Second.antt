@@ -8,9 +8,12 @@ use lib.ListN.{length, length-set}
 use lib.Seq.{getD-set-other}
 use borrow.Author.Tests.{lt-ltb}
 use Rattle.frame.proofs.Rows.{in-order}
-use Rattle.frame.specs.Messages.{frames, kindAt, firstOf, codesOf}
+use Rattle.frame.specs.Messages.{frames}
+use Rattle.frame.specs.Decoding.{message, decoded as decoding, offsetsOf, c1sOf, frameOf}
+use Rattle.frame.specs.declared.Decoded.the-variants as decoder
+use Rattle.frame.specs.declared.Encoded.the-variants as encoder
 use Rattle.frame.specs.Coding.{decodeOf, encodeOf}
-use Rattle.frame.proofs.Laws.{encode-decode, decode-encode}
+use Rattle.frame.proofs.Laws.{decode-encode, encode-decode, kind-zero}
 use Rattle.device.specs.Take.{takes}
 use Rattle.device.specs.declared.Device.{Device}
 use Rattle.area.specs.Sizes.{depth, linkSize, linkAt}
@@ -23,7 +26,9 @@ use Rattle.area.proofs.Laws.{loop-sound}
 use Rattle.calls.specs.Outcome.{done, After, after, callOf}
 use Rattle.calls.specs.Calls.{ofOldest, hopAnswer, sentBy, passed, passesOn, hopIn, hopOf}
 use Rattle.calls.specs.declared.HopAnswer.{HopAnswer}
-use Rattle.coding.specs.Coding.{decodeAnswer, encodeAnswer}
+use Rattle.coding.specs.Coding.{decodedAs, decodeAnswer, encodedAs, encodeAnswer}
+use Rattle.coding.specs.declared.DecodeAnswer.{DecodeAnswer}
+use Rattle.coding.specs.declared.EncodeAnswer.{EncodeAnswer}
 use Rattle.calls.specs.SetUp.{poweredOn}
 use Rattle.demands.specs.Calls.{Byte, numbers, hop, setUp, Answer, plain, hopped, decoded, encoded, acts, pil}
 use Rattle.demands.specs.Conditions.{devicesAt, lowest}
@@ -115,14 +120,14 @@ set-up-leaves items a z =
     (ap plain (demand-1 .by-table (setUp items) a ∙ z))
     ∙ ap (λ (x : List ℕ). after (plain 0) x) (sets-up a items z .leaves)
 
-decode-answers : (f : ℕ) → f < frames → decoded (decodeAnswer f) ≡ decoded (record { refusal = 0; kind = kindAt f })
+decode-answers : (f : ℕ) → f < frames → decodeAnswer f ≡ decodedAs (decoder.Of (decoding f))
 unfolding decodeOf
 decode-answers f h = rw (lt-ltb f frames h)
 
-encode-answers : (k o : ℕ) → o < codesOf k →
-    encoded (encodeAnswer k o) ≡ encoded (record { frame = firstOf k + o; refusal = 0 })
+encode-answers : (k o c : ℕ) → o < offsetsOf k → c < c1sOf k →
+    encodeAnswer k o c ≡ encodedAs (encoder.Frame (frameOf (message k o c)))
 unfolding encodeOf
-encode-answers k o h = rw (lt-ltb o (codesOf k) h)
+encode-answers k o c i j = rw (lt-ltb o (offsetsOf k) i, lt-ltb c (c1sOf k) j)
 
 pub demand-2 : Demand2
 demand-2 =
@@ -136,10 +141,11 @@ demand-2 =
             takes-out = λ f fs a j e. take-leaves a j f fs e;
             local-calls = λ c i a j h z. local-call-leaves a j c i h z;
             sets-up = set-up-leaves;
-            decodes = λ f a h. ap (λ (r : Answer). after r a) (decode-answers f h);
-            encodes = λ k o a h. ap (λ (r : Answer). after r a) (encode-answers k o h);
+            decodes = λ f a h. ap (λ (r : DecodeAnswer). after (decoded r) a) (decode-answers f h);
+            encodes = λ k o c a i j. ap (λ (r : EncodeAnswer). after (encoded r) a) (encode-answers k o c i j);
           };
       messages-in-order = in-order;
-      encode-decode = encode-decode;
       decode-encode = decode-encode;
+      encode-decode = encode-decode;
+      kind-zero = kind-zero;
     }

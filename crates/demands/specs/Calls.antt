@@ -6,7 +6,7 @@ use Rattle.calls.specs.Outcome.{After, after}
 use Rattle.calls.specs.Calls.{noTake, noHop, putOf, takeOf, hopOf, loadOf, statusOf, wishOf}
 use Rattle.calls.specs.Drain.{noDrain, drainOf}
 use Rattle.calls.specs.SetUp.{setUpOf}
-use Rattle.coding.specs.Coding.{decodeAnswer, encodeAnswer}
+use Rattle.coding.specs.Coding.{noDecoding, decodeAnswer, noEncoding, encodeAnswer}
 use Rattle.calls.specs.declared.HopAnswer.{HopAnswer}
 use Rattle.calls.specs.declared.TakeAnswer.{TakeAnswer}
 use Rattle.calls.specs.declared.DrainAnswer.{DrainAnswer}
@@ -36,7 +36,7 @@ pub data Call : Type 0 where
   onArea : Action → Call
   setUp : List Byte → Call
   decode : ℕ → Call
-  encode : ℕ → ℕ → Call
+  encode : (kind offset c1 : ℕ) → Call
 
 -- what a C caller is answered
 pub data Answer : Type 0 where
@@ -66,7 +66,7 @@ abbrev pub pil : Call → List ℕ → After Answer
 pil (onArea c) a = acts c a
 pil (setUp items) a = told plain (setUpOf a (numbers items))
 pil (decode f) a = after (decoded (decodeAnswer f)) a
-pil (encode k o) a = after (encoded (encodeAnswer k o)) a
+pil (encode k o c) a = after (encoded (encodeAnswer k o c)) a
 
 -- the refusal in an answer, 0 for none
 abbrev pub refusalIn : Answer → ℕ
@@ -90,5 +90,5 @@ bareAction (drain b) k = drained (noDrain k)
 abbrev pub bare : Call → ℕ → Answer
 bare (onArea c) k = bareAction c k
 bare (setUp items) k = plain k
-bare (decode f) k = decoded (record { refusal = k; kind = 0 })
-bare (encode j o) k = encoded (record { frame = 0; refusal = k })
+bare (decode f) k = decoded (noDecoding k)
+bare (encode j o c) k = encoded (noEncoding k)

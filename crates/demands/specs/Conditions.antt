@@ -1,10 +1,11 @@
 -- The nine conditions of 01's refusal table, each a test of a call and an area, written from the table row by row.
 use Prim.Native.Nat.{ℕ, zero, suc, _*_}
 use mathlib.Core.List.{List, [], _∷_}
-use mathlib.Core.Bool.{Bool, false, not, cond, _||_}
+use mathlib.Core.Bool.{Bool, false, not, cond, _&&_, _||_}
 use lib.ListN.{length}
 use lib.Dec.{eqb, ltb, leb}
-use Rattle.frame.specs.Messages.{frames, codesOf}
+use Rattle.frame.specs.Messages.{frames}
+use Rattle.frame.specs.Decoding.{hasC1, offsetsOf}
 use Rattle.device.specs.Device.{sendData, status as sendStatus, serviceRequest, sendingData, mostData, has}
 use Rattle.record.specs.Sound.{allowed}
 use Rattle.area.specs.Sizes.{depth, mostDevices, itemSize, areaSize}
@@ -28,14 +29,14 @@ Shape (onArea c) a = eqb (devicesAt (length a)) 0 || not (eqb (length a) (areaSi
 Shape (setUp items) a = eqb (devicesAt (length a)) 0 || not
     (eqb (length (numbers items)) (itemSize * devicesAt (length a)))
 Shape (decode f) a = false
-Shape (encode k o) a = false
+Shape (encode k o c) a = false
 
 -- 2, Unsound: the contents aren't sound; at set up an item isn't allowed, and the contents aren't looked at
 abbrev pub Unsound : Call → List ℕ → Bool
 Unsound (onArea c) a = not (sound a)
 Unsound (setUp items) a = not (all allowed (parts itemSize (devicesAt (length a)) (numbers items)))
 Unsound (decode f) a = false
-Unsound (encode k o) a = false
+Unsound (encode k o c) a = false
 
 -- 3, NoDevice: the device number is n or more
 abbrev pub NoDevice : Action → List ℕ → Bool
@@ -47,7 +48,11 @@ NoDevice (status i s) a = leb (countIn a) i
 NoDevice (wish i w) a = leb (countIn a) i
 NoDevice (drain b) a = false
 
--- 4, BadFrame: a frame over 2,047 at put or decoder; a kind or an offset outside the list at the encoder
+-- a C1 that is not 0 or 1, or 1 on a kind without one (02, g)
+abbrev pub badC1 : ℕ → ℕ → Bool
+badC1 k c = ltb 1 c || (eqb c 1 && not (hasC1 k))
+
+-- 4, BadFrame: a frame over 2,047 at put or decoder; at the encoder a kind or an offset outside the list, or such a C1
 abbrev pub BadFrame : Call → Bool
 BadFrame (onArea (put f)) = leb frames f
 BadFrame (onArea (hop i)) = false
@@ -58,7 +63,7 @@ BadFrame (onArea (wish i w)) = false
 BadFrame (onArea (drain b)) = false
 BadFrame (setUp items) = false
 BadFrame (decode f) = leb frames f
-BadFrame (encode k o) = leb (codesOf k) o
+BadFrame (encode k o c) = leb (offsetsOf k) o || badC1 k c
 
 -- link j holds no frame; it holds four
 abbrev pub holdsNone : ℕ → List ℕ → Bool
@@ -126,7 +131,7 @@ abbrev pub ofAction : (Action → List ℕ → Bool) → Call → List ℕ → B
 ofAction test (onArea c) a = test c a
 ofAction test (setUp items) a = false
 ofAction test (decode f) a = false
-ofAction test (encode k o) a = false
+ofAction test (encode k o c) a = false
 
 -- the table: whether each condition holds, in the order of its number
 abbrev pub table : Call → List ℕ → List Bool

@@ -1,14 +1,15 @@
 -- The three demands on the model, over the very definitions that the contracts of the exported functions cite.
--- It leans on Calls, Conditions, Drains, Histories (the crate teeth says what it shuts out); frame's Messages, Coding,
--- Laws; coding's Coding; device's Sent, and Take with the rules that it names; record_local's Local; record's Record,
+-- It leans on Calls, Conditions, Drains, Histories (the crate teeth says what it shuts out); frame's Messages,
+-- Decoding, Coding, Laws; coding's Coding; device's Sent, and Take with the rules that it names; record_local's Local; record's Record,
 -- Parts, Sound, Fits; area's Sizes, Parts, Link, Loop, Lookup; calls' Outcome, Calls, Drain, SetUp; order's Line, Flat,
 -- History, RightRound, Through, which have names of their own.
 use Prim.Native.Nat.{ℕ, suc, _+_, _*_, _<_}
 use mathlib.Core.Path.{_≡_}
 use mathlib.Core.List.{List, [], _∷_, _++_, tail}
 use lib.ListN.{length}
-use Rattle.frame.specs.Messages.{frames, kindAt, firstOf, codesOf}
-use Rattle.frame.specs.Laws.{TableInOrder, EncodeDecode, DecodeEncode}
+use Rattle.frame.specs.Messages.{frames}
+use Rattle.frame.specs.Decoding.{message, decoded as decoding, offsetsOf, c1sOf, frameOf}
+use Rattle.frame.specs.Laws.{TableInOrder, DecodeEncode, EncodeDecode, KindZero}
 use Rattle.device.specs.Take.{takes}
 use Rattle.device.specs.Sent.{Sent}
 use Rattle.record.specs.Record.{recordOf}
@@ -97,19 +98,21 @@ pub record Obeys (model : Call → List ℕ → After Answer) : Type 0 where
   -- a set-up that is not refused leaves power-on devices and empty links;
   pub sets-up : (items : List Byte) (a : List ℕ) → lowest (setUp items) a ≡ 0 →
       model (setUp items) a ≡ after (plain 0) (areaOf (poweredOn (devicesAt (length a)) (numbers items)))
-  -- the decoder answers the message table's kind, and the encoder the kind's first code plus the offset.
+  -- the decoder answers a frame's kind, offset and C1, and the encoder the frame of those that are in the list.
   pub decodes : (f : ℕ) (a : List ℕ) → f < frames →
-      model (decode f) a ≡ after (decoded (record { refusal = 0; kind = kindAt f })) a
-  pub encodes : (k o : ℕ) (a : List ℕ) → o < codesOf k →
-      model (encode k o) a ≡ after (encoded (record { frame = firstOf k + o; refusal = 0 })) a
+      let m = decoding f in
+      model (decode f) a ≡ after (decoded (record { offset = m .offset; refusal = 0; kind = m .kind; c1 = m .c1 })) a
+  pub encodes : (k o c : ℕ) (a : List ℕ) → o < offsetsOf k → c < c1sOf k →
+      model (encode k o c) a ≡ after (encoded (record { frame = frameOf (message k o c); refusal = 0 })) a
 
--- That the published table has the decoder's kind at every frame is the contract of `published::kind`.
+-- That the published table has the decoding's kind at every frame is the contract of `published::kind`.
 pub record Demand2 : Type 0 where
   pub obeyed : Obeys pil
-  -- the message table is in order, and decoder and encoder undo each other
+  -- the message table is in order, decoder and encoder undo each other, and kind 0 is the frames that no kind has
   pub messages-in-order : TableInOrder
-  pub encode-decode : EncodeDecode
   pub decode-encode : DecodeEncode
+  pub encode-decode : EncodeDecode
+  pub kind-zero : KindZero
 
 -- ---- Demand 3: the order of hops does not matter
 

@@ -6,6 +6,7 @@ use mathlib.Core.Bool.{Bool, true, false, _||_}
 use native.Mathlib.Omega.{arith}
 use lib.Dec.{eqb, ltb}
 use borrow.Author.Tests.{eq-eqb, ne-eqb, lt-ltb, le-ltb}
+use Rattle.frame.specs.declared.Message.{Message}
 use Rattle.device.specs.Choose.{choose}
 use Rattle.device.specs.Change.{talking}
 use Rattle.device.specs.Reply.{sends, marked, continues}
@@ -51,7 +52,7 @@ module _ {A : Type 0} {x : A} (p q : A) where
 pub sends-on : {d e : Device} {r : Sent} (f : ℕ) → r ≡ sends d f → d ≡ e → r ≡ sends e f
 sends-on f p q = rw (← q) p
 
-pub marked-on : {r x y : ℕ} (d : Device) → r ≡ marked d x → x ≡ y → r ≡ marked d y
+pub marked-on : {r : ℕ} {x y : Message} (d : Device) → r ≡ marked d x → x ≡ y → r ≡ marked d y
 marked-on d p q = rw (← q) p
 
 pub continues-on : {r : Sent} {d e : Device} → r ≡ continues d → d ≡ e → r ≡ continues e

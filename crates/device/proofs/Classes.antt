@@ -1,11 +1,12 @@
 -- What a device does with the frames of a class: data or end below 0x400, identify from 0x600 on, nothing past
--- 2,047; and the codes of AAD.
+-- 2,047; and the codes and addresses of AAD.
 use Prim.Native.Nat.{ℕ, _≤_, _<_}
 use mathlib.Core.Path.{_≡_}
 use native.Mathlib.Omega.{arith}
 use native.Mathlib.Decide.{decLt}
 use Rattle.frame.specs.declared.Kind.the-variants.{Aad}
 use Rattle.frame.specs.Messages.{frames, messages, firstIn, firstOf, codesIn, codesOf}
+use Rattle.frame.specs.Decoding.{hasC1, offsetIn, decoded}
 use Rattle.frame.proofs.Rows.{within-kind, ranged, no-frame}
 use Rattle.device.specs.Choose.{choose}
 use Rattle.device.specs.Reply.{sends}
@@ -15,15 +16,15 @@ use Rattle.device.specs.Sentences.{Of}
 use Rattle.device.specs.declared.Device.{Device}
 
 module _ (d : Device) (f : ℕ) where
-  pub data-frame : f < 0x400 → takes d f ≡ dataOrEnd d f
+  pub data-frame : f < 0x400 → takes d f ≡ dataOrEnd d (decoded f)
   unfolding takes choose messages firstIn firstOf codesIn codesOf
   data-frame h = go (decLt f 0x200)
     where
-      go : Dec (f < 0x200) → takes d f ≡ dataOrEnd d f
+      go : Dec (f < 0x200) → takes d f ≡ dataOrEnd d (decoded f)
       go (yes k) = rw (← ranged 1 f (omega arith) (omega arith))
       go (no k) = rw (← ranged 2 f (omega arith) (omega arith))
 
-  pub idy-frame : 0x600 ≤ f → f < frames → takes d f ≡ idy d f
+  pub idy-frame : 0x600 ≤ f → f < frames → takes d f ≡ idy d (decoded f)
   unfolding takes choose messages firstIn firstOf codesIn codesOf
   idy-frame l h = rw (← ranged 42 f (omega arith) (omega arith))
 
@@ -34,3 +35,7 @@ module _ (d : Device) (f : ℕ) where
 pub aad-codes : (f : ℕ) → Of Aad f → (0x580 ≤ f) × (f < 0x59f)
 unfolding messages firstIn firstOf codesIn codesOf
 aad-codes f e = within-kind f 34 e (omega arith)
+
+pub aad-address : (f : ℕ) → Of Aad f → decoded f .offset < 31
+unfolding messages firstIn firstOf codesIn codesOf hasC1 offsetIn
+aad-address f e = let w = aad-codes f e in rw e (omega arith)

@@ -1,6 +1,5 @@
--- The rule of a frame's kind, where one is listed and where none is; and the number of an addressed message by its low
--- five bits.
-use Prim.Native.Nat.{ℕ, zero, suc, _+_, _≤_, _<_, _%_}
+-- The rule of a frame's kind, where one is listed and where none is.
+use Prim.Native.Nat.{ℕ, zero, suc, _+_, _≤_, _<_}
 use mathlib.Core.Path.{_≡_, refl, sym, ap, _∙_}
 use mathlib.Core.Logic.{⊎-elim}
 use mathlib.Core.List.{List, [], _∷_}
@@ -12,19 +11,21 @@ use denote.Enum.Declared.{tagOf}
 use types.Run.{OneOf}
 use Rattle.frame.specs.declared.Kind.{Kind}
 use Rattle.frame.specs.Messages.{frames, kinds, numberOf, kindAt, firstOf, codesOf}
+use Rattle.frame.specs.Decoding.{hasC1, decoded, Coded}
 use Rattle.frame.proofs.Kind.{the-type}
 use Rattle.frame.proofs.Every.{tag}
 use Rattle.frame.proofs.Rows.{within-kind, no-frame}
 use Rattle.device.specs.Choose.{choose}
 use Rattle.device.specs.Reply.{sends}
-use Rattle.device.specs.Take.{Rule, number, select, rules, takes}
+use Rattle.device.specs.Take.{Rule, select, rules, takes}
 use Rattle.device.specs.declared.Device.{Device}
 use Rattle.device.specs.Sent.{Sent}
 
 pub listed : (j : Kind) {k : Kind} {x : Sent} (d : Device) (f : ℕ) → numberOf k ≡ kindAt f → k ≡ j →
-    x ≡ select (numberOf j) (rules d f) (sends d f) → x ≡ takes d f
+    x ≡ select (numberOf j) (rules d f (decoded f)) (sends d f) → x ≡ takes d f
 unfolding takes
-listed j d f e q h = rw (← e, q) h
+listed j d f e q h =
+    h ∙ ap (λ (n : ℕ). select n (rules d f (decoded f)) (sends d f)) (sym (ap numberOf q) ∙ e)
 
 both-true : (a b : Bool) → (a && b) ≡ true → (a ≡ true) × (b ≡ true)
 both-true true b h = (refl, h)
@@ -98,29 +99,18 @@ module _ (lo hi : ℕ) where
   rest rs i (suc n) = absent i rs (rest rs (suc i) n)
 
   pub other : (k : Kind) {x : Sent} (d : Device) (f : ℕ) → numberOf k ≡ kindAt f → lo ≤ f → f < hi →
-      OneOf (rest (rules d f) 0 kinds) (tagOf the-type k) → T (unlisted (rest (rules d f) 0 kinds) (rules d f)) →
+      OneOf (rest (rules d f (decoded f)) 0 kinds) (tagOf the-type k) → T (unlisted (rest (rules d f (decoded f)) 0 kinds) (rules d f (decoded f))) →
       x ≡ sends d f → x ≡ takes d f
   unfolding takes
   other k d f e l h o t s =
-      let ks = rest (rules d f) 0 kinds in
+      let ks = rest (rules d f (decoded f)) 0 kinds in
       let z : tagOf the-type k ≡ kindAt f = tag k ∙ e in
-      s ∙ sym (falls ks f (rules d f) (sends d f) l h (rw z at o) t)
+      s ∙ sym (falls ks f (rules d f (decoded f)) (sends d f) l h (rw z at o) t)
 
--- ---- the number of LAD, TAD and AAD
-
--- a kind of the list whose codes start at a multiple of 32 and are at most 32
-abbrev fiveBits : ℕ → Bool
-fiveBits k = ltb 0 k && (eqb (firstOf k % 32) 0 && leb (codesOf k) 32)
-
-pub low-five : (j : Kind) {k : Kind} (f : ℕ) → numberOf k ≡ kindAt f → k ≡ j → fiveBits (numberOf j) ≡ true →
-    f % 32 ≡ number j f
-low-five j {k} f e q t =
-    let n = numberOf j in
-    let a = both-true (ltb 0 n) (eqb (firstOf n % 32) 0 && leb (codesOf n) 32) t in
-    let b = both-true (eqb (firstOf n % 32) 0) (leb (codesOf n) 32) (a .1) in
-    let m : firstOf n % 32 ≡ 0 = eqb-true _ _ (b .0) in
-    let w : codesOf n ≤ 32 = leb-true _ _ (b .1) in
-    let i = within-kind f n (sym e ∙ ap numberOf q) (ltb-true 0 n (a .0)) in omega arith
+-- a frame of a kind of the list without C1, whose offset can be asked for
+pub coded-as : (j : Kind) {k : Kind} (f : ℕ) → numberOf k ≡ kindAt f → k ≡ j → ltb 0 (numberOf j) ≡ true →
+    hasC1 (numberOf j) ≡ false → Coded (numberOf j) f
+coded-as j f e q l w = record { kind = sym (ap numberOf q) ∙ e; listed = ltb-true 0 (numberOf j) l; without = w }
 
 -- a frame of a kind of the list is below 2,048
 pub below : (j : Kind) {k : Kind} (f : ℕ) → numberOf k ≡ kindAt f → k ≡ j → ltb 0 (numberOf j) ≡ true → f < frames

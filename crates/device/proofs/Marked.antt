@@ -1,42 +1,101 @@
--- A frame as it goes out, C1 set if service is 1: what it has, and what it keeps of the frame.
-use Prim.Native.Nat.{ℕ, _+_, _*_, _/_, _%_, _≤_, _<_}
-use mathlib.Core.Path.{_≡_, refl}
+-- A DAB, END or IDY as it goes out, C1 set if service is 1: it is decoded as it was made, by the laws of the codes.
+use Prim.Native.Nat.{ℕ, _≤_, _<_}
+use mathlib.Core.Path.{_≡_, refl, sym, ap, _∙_}
+use mathlib.Core.Bool.{true}
 use native.Mathlib.Omega.{arith}
+use native.Mathlib.Decide.{decLt}
 use lib.Dec.{eqb}
-use borrow.Author.Tests.{eqb-true, eqb-false}
-use Rattle.device.specs.Device.{asking}
-use Rattle.device.specs.Reply.{c1, withC1, marked}
-use Rattle.device.specs.Data.{dataBits}
-use Rattle.device.specs.Sentences.{HasC1}
+use borrow.Author.Tests.{eqb-false}
+use Rattle.frame.specs.Messages.{frames, kindAt, messages, firstIn, firstOf, codesIn, codesOf}
+use Rattle.frame.specs.Decoding.{message, dab, end, idy, hasC1, decoded, frameOf}
+use Rattle.frame.specs.Laws.{CodeOf}
+use Rattle.frame.specs.declared.Message.{Message}
+use Rattle.frame.proofs.Rows.{within-kind, ranged}
+use Rattle.frame.proofs.Laws.{Placed, placed, offsets-free, c1s-free, Has, has, Free, free}
+use Rattle.device.specs.Device.{sendingStatus, sendingDeviceID, asking}
+use Rattle.device.specs.Reply.{withC1, marked, otherByte}
+use Rattle.device.specs.Sentences.{HasC1, OfBytes}
 use Rattle.device.specs.declared.Device.{Device}
 use Rattle.device.proofs.Chosen.{chosen}
 
--- what the frame has, and has with C1 set where it was clear
-pub set-or-not : (P : ℕ → Type 0) (f : ℕ) → (HasC1 f → P f) → ((HasC1 f → ⊥) → P (f + c1)) → P (withC1 f)
-set-or-not P f h k =
-    chosen P (eqb (f / c1 % 2) 1) f (f + c1) (λ e. h (eqb-true _ _ e)) (λ e. k (eqb-false _ _ e))
+-- a message that has C1
+pub record Shows (m : Message) : Type 0 where
+  pub free : hasC1 (m .kind) ≡ true
+  pub offset : m .offset < 256
+  pub c1 : m .c1 < 2
 
-module _ (d : Device) (f : ℕ) where
-  either : (P : ℕ → Type 0) → P f → ((HasC1 f → ⊥) → P (f + c1)) → P (marked d f)
+-- a frame of a kind with C1 is decoded to one
+pub shows : (f : ℕ) → hasC1 (kindAt f) ≡ true → Shows (decoded f)
+shows f t =
+    let h = has f (free (kindAt f) t .listed) in
+    record {
+      free = t;
+      offset = omega (arith, h .offset, offsets-free (kindAt f) t);
+      c1 = omega (arith, h .c1, c1s-free (kindAt f) t);
+    }
+
+pub data-shows : (f : ℕ) → f < 0x400 → Shows (decoded f)
+unfolding messages firstIn firstOf codesIn codesOf hasC1
+data-shows f h = go (decLt f 0x200)
+  where
+    go : Dec (f < 0x200) → Shows (decoded f)
+    go (yes i) = shows f (ap hasC1 (sym (ranged dab f (omega arith) (omega arith))))
+    go (no i) = shows f (ap hasC1 (sym (ranged end f (omega arith) (omega arith))))
+
+pub idy-shows : (f : ℕ) → 0x600 ≤ f → f < frames → Shows (decoded f)
+unfolding messages firstIn firstOf codesIn codesOf hasC1
+idy-shows f l h = shows f (ap hasC1 (sym (ranged idy f (omega arith) (omega arith))))
+
+-- a reply's byte makes one
+pub reply : (k o : ℕ) → hasC1 k ≡ true → o < 256 → Shows (message k o 0)
+reply k o t i = record { free = t; offset = i; c1 = omega arith }
+
+pub other-small : (d : Device) → OfBytes d → otherByte d < 256
+unfolding otherByte
+other-small d b =
+    chosen (λ x. x < 256) (eqb (d .talker) sendingStatus) _ _ (λ e. b .status)
+    (λ e. chosen (λ x. x < 256) (eqb (d .talker) sendingDeviceID) _ _ (λ i. b .id (d .replied)) (λ i. b .accessory))
+
+-- with C1 set it still is
+pub set : {m : Message} → Shows m → Shows (withC1 m)
+set s = record { free = s .free; offset = s .offset; c1 = omega arith }
+
+-- it makes a frame that is decoded to it
+pub made : (m : Message) → Shows m → Placed m
+made m s =
+    placed (m .kind) (m .offset) (m .c1) (omega (arith, s .offset, offsets-free (m .kind) (s .free)))
+    (omega (arith, s .c1, c1s-free (m .kind) (s .free)))
+
+module _ (d : Device) (m : Message) where
+  either : (P : ℕ → Type 0) → P (frameOf m) → P (frameOf (withC1 m)) → P (marked d m)
   unfolding marked
-  either P h k = chosen P (eqb (d .service) asking) (withC1 f) f (λ e. set-or-not P f (λ s. h) k) (λ e. h)
+  either P h k = chosen P (eqb (d .service) asking) (frameOf (withC1 m)) (frameOf m) (λ e. k) (λ e. h)
 
-  pub marked-below : (m : ℕ) → f < 512 * m → marked d f < 512 * m
-  marked-below m h = either (λ x. x < 512 * m) h (λ n. omega arith)
+  module _ (s : Shows m) where
+    pub marked-kind : kindAt (marked d m) ≡ m .kind
+    marked-kind =
+        either (λ x. kindAt x ≡ m .kind) (ap (λ (n : Message). n .kind) (made m s .again))
+        (ap (λ (n : Message). n .kind) (made (withC1 m) (set s) .again))
 
-  pub marked-above : f ≤ marked d f
-  marked-above = either (λ x. f ≤ x) (omega arith) (λ n. omega arith)
+    pub marked-bits : decoded (marked d m) .offset ≡ m .offset
+    marked-bits =
+        either (λ x. decoded x .offset ≡ m .offset) (ap (λ (n : Message). n .offset) (made m s .again))
+        (ap (λ (n : Message). n .offset) (made (withC1 m) (set s) .again))
 
-  pub marked-bits : dataBits (marked d f) ≡ dataBits f
-  marked-bits = either (λ x. dataBits x ≡ dataBits f) refl (λ n. omega arith)
+    -- it is one of its kind's codes
+    pub marked-code : CodeOf (m .kind) (marked d m)
+    marked-code = within-kind (marked d m) (m .kind) marked-kind (free (m .kind) (s .free) .listed)
+
+    pub marked-below : marked d m < frames
+    marked-below = either (λ x. x < frames) (made m s .below) (made (withC1 m) (set s) .below)
+
+    -- C1 is set
+    pub marked-asks : d .service ≡ asking → HasC1 (marked d m)
+    unfolding marked
+    marked-asks a =
+        chosen HasC1 (eqb (d .service) asking) (frameOf (withC1 m)) (frameOf m)
+        (λ e. ap (λ (n : Message). n .c1) (made (withC1 m) (set s) .again)) (λ e. absurd (eqb-false _ _ e a))
 
   -- C1 is not cleared
-  pub marked-same : HasC1 f → marked d f ≡ f
-  marked-same h = either (λ x. x ≡ f) refl (λ n. absurd (n h))
-
-  -- C1 is set
-  pub marked-asks : d .service ≡ asking → HasC1 (marked d f)
-  unfolding marked
-  marked-asks a =
-      chosen HasC1 (eqb (d .service) asking) (withC1 f) f (λ e. set-or-not HasC1 f (λ s. s) (λ n. omega arith))
-      (λ e. absurd (eqb-false _ _ e a))
+  pub marked-same : m .c1 ≡ 1 → marked d m ≡ frameOf m
+  marked-same h = either (λ x. x ≡ frameOf m) refl (ap (λ (c : ℕ). frameOf (message (m .kind) (m .offset) c)) (sym h))

@@ -1,21 +1,26 @@
 -- The sentences of specs/Sentences.antt, in the paper's order: four are told of every rule (Told), the others follow
 -- from the rule of their frames.
-use Prim.Native.Nat.{ℕ, _+_, _-_, _/_, _≤_, _<_}
-use mathlib.Core.Path.{_≡_, refl, sym, _∙_}
+use Prim.Native.Nat.{ℕ, _-_, _≤_, _<_}
+use mathlib.Core.Path.{_≡_, refl, sym, ap, _∙_}
 use mathlib.Core.Bool.{Bool, true, false, and-false}
 use mathlib.Core.Logic.{_⊎_, inl, inr}
 use native.Mathlib.Omega.{arith}
+use native.Mathlib.Decide.{decLt}
 use lib.Dec.{eqb}
 use borrow.Author.Tests.{ltb-true, lt-ltb, eq-eqb, ne-eqb}
-use Rattle.frame.specs.Messages.{messages, firstIn, firstOf, codesIn, codesOf}
-use Rattle.frame.proofs.Rows.{within-kind}
+use Rattle.frame.specs.Messages.{kindAt, messages, firstIn, firstOf, codesIn, codesOf}
+use Rattle.frame.specs.Decoding.{dab, end, idy, hasC1, offsetIn, decoded, frameOf}
+use Rattle.frame.specs.Laws.{CodeOf}
+use Rattle.frame.specs.declared.Message.{Message}
+use Rattle.frame.proofs.Rows.{within-kind, ranged}
+use Rattle.frame.proofs.Laws.{free, has}
 use Rattle.device.specs.Choose.{choose}
 use Rattle.device.specs.Device.{idle, addressed, sending}
 use Rattle.device.specs.Change.{talking}
 use Rattle.device.specs.Commands.{lad, tad}
-use Rattle.device.specs.Reply.{eto, ete, c1, c2, stops, continues}
+use Rattle.device.specs.Reply.{eto, ete, withC1, marked, stops, continues}
 use Rattle.device.specs.Ready.{aad}
-use Rattle.device.specs.Data.{dataBits, endBit, agrees, returned, heard, dataOrEnd}
+use Rattle.device.specs.Data.{agrees, returned, heard, dataOrEnd}
 use Rattle.device.specs.Take.{takes}
 use Rattle.device.specs.Sentences.{HasC1, Sending, CommandsGoOn, NoLadIs31, NoTadIs31, ConfiguredPassesAad}
 use Rattle.device.specs.Sentences.{OwnNotHanded, OwnNotPassed, OwnCompared, IdyGoesOn, ServiceShown, C1Kept}
@@ -25,7 +30,7 @@ use Rattle.device.specs.Sent.{Sent}
 use Rattle.device.specs.Classes.{IsData}
 use Rattle.device.proofs.Classes.{data-frame, idy-frame}
 use Rattle.device.proofs.Chosen.{chosen}
-use Rattle.device.proofs.Marked.{set-or-not, marked-below, marked-above, marked-bits, marked-same}
+use Rattle.device.proofs.Marked.{Shows, data-shows, idy-shows, set, made, marked-code, marked-bits, marked-same}
 use Rattle.device.proofs.Told.{told}
 
 pub commands-go-on : CommandsGoOn
@@ -36,7 +41,7 @@ unfolding lad choose
 lad-other d a n = rw (ne-eqb a (d .address) n)
 
 pub no-lad-is-31 : NoLadIs31
-unfolding takes choose messages firstIn firstOf codesIn codesOf
+unfolding takes choose messages firstIn firstOf codesIn codesOf hasC1 offsetIn
 no-lad-is-31 d f a e =
     let h : f < 0x43f = within-kind f 12 e (omega arith) .1 in rw e (lad-other d (f - 0x420) (λ q. omega arith))
 
@@ -45,7 +50,7 @@ unfolding tad choose
 tad-other d a n = rw (ne-eqb a (d .address) n)
 
 pub no-tad-is-31 : NoTadIs31
-unfolding takes choose messages firstIn firstOf codesIn codesOf
+unfolding takes choose messages firstIn firstOf codesIn codesOf hasC1 offsetIn
 no-tad-is-31 d f a e =
     let h : f < 0x45f = within-kind f 14 e (omega arith) .1 in rw e (tad-other d (f - 0x440) (λ q. omega arith))
 
@@ -56,85 +61,128 @@ configured-passes-aad d f c e = rw (e, ne-eqb (d .configured) 0 c)
 pub own-not-handed : OwnNotHanded
 own-not-handed d f s = told d f .unhanded s
 
-own-returned : (d : Device) (f : ℕ) → Sending d → IsData f → takes d f ≡ returned d f
+own-returned : (d : Device) (f : ℕ) → Sending d → IsData f → takes d f ≡ returned d (decoded f)
 unfolding dataOrEnd choose
 own-returned d f s i = rw (data-frame d f (i .past), lt-ltb addressed (d .talker) s)
 
-differing : (d : Device) (f : ℕ) → agrees f (d .last) ≡ false → returned d f ≡ stops d ete
-unfolding returned choose
-differing d f e = rw e
+module _ (d : Device) (m : Message) where
+  differing : agrees m (decoded (d .last)) ≡ false → returned d m ≡ stops d ete
+  unfolding returned choose
+  differing e = rw e
 
-agreeing : (d : Device) (f : ℕ) → agrees f (d .last) ≡ true →
-    returned d f ≡ choose (eqb (d .noted) 1) (stops d eto) (continues d)
-unfolding returned choose
-agreeing d f e = rw e
+  agreeing : agrees m (decoded (d .last)) ≡ true →
+      returned d m ≡ choose (eqb (d .noted) 1) (stops d eto) (continues d)
+  unfolding returned choose
+  agreeing e = rw e
+
+  -- C1 is not looked at
+  c1-set : returned d (withC1 m) ≡ returned d m
+  unfolding returned
+  c1-set = refl
 
 pub own-not-passed : OwnNotPassed
-own-not-passed d f s i = rw (own-returned d f s i) (go (agrees f (d .last)) refl)
+own-not-passed d f s i = rw (own-returned d f s i) (go (agrees m l) refl)
   where
+    m : Message
+    m = decoded f
+
+    l : Message
+    l = decoded (d .last)
+
     Own : Sent → Type 0
     Own x = (x ≡ stops d ete) ⊎ ((x ≡ stops d eto) ⊎ (x ≡ continues d))
 
-    go : (b : Bool) → agrees f (d .last) ≡ b → Own (returned d f)
+    go : (b : Bool) → agrees m l ≡ b → Own (returned d m)
     go true e =
-        rw (agreeing d f e) (chosen Own (eqb (d .noted) 1) _ _ (λ n. inr (inl refl)) (λ n. inr (inr refl)))
-    go false e = inl (differing d f e)
+        rw (agreeing d m e) (chosen Own (eqb (d .noted) 1) _ _ (λ n. inr (inl refl)) (λ n. inr (inr refl)))
+    go false e = inl (differing d m e)
 
--- C1 set where it was clear leaves data bits and C2
-c1-set : (d : Device) (f : ℕ) → (HasC1 f → ⊥) → returned d (f + c1) ≡ returned d f
-unfolding returned
-c1-set d f n =
-    let b : dataBits (f + c1) ≡ dataBits f = omega arith in
-    let q : f / c2 ≡ f / c1 / 2 = omega arith in
-    let e : (f + c1) / c2 ≡ f / c1 / 2 = omega arith in
-    rw (b, e, q)
+-- a data byte with C1 set is one still, and is decoded so
+module _ (f : ℕ) (i : IsData f) where
+  c1-frame : ℕ
+  c1-frame = frameOf (withC1 (decoded f))
+
+  c1-decoded : decoded c1-frame ≡ withC1 (decoded f)
+  unfolding c1-frame
+  c1-decoded = made (withC1 (decoded f)) (set (data-shows f (i .past))) .again
+
+  c1-data : IsData c1-frame
+  unfolding messages firstIn firstOf codesIn codesOf
+  c1-data = go (decLt f 0x200)
+    where
+      held : (k : ℕ) → k ≡ kindAt f → 0 < k → CodeOf k c1-frame
+      held k e p = within-kind c1-frame k (ap (λ (n : Message). n .kind) c1-decoded ∙ sym e) p
+
+      go : Dec (f < 0x200) → IsData c1-frame
+      go (yes h) = record { past = omega (arith, held dab (ranged dab f (omega arith) (omega arith)) (omega arith) .1) }
+      go (no h) =
+          record { past = omega (arith, held end (ranged end f (omega arith) (omega (arith, i .past))) (omega arith) .1) }
 
 pub own-compared : OwnCompared
+unfolding c1-frame
 own-compared d f s i =
     record {
-      bits-differ = λ n. own ∙ differing d f (rw (ne-eqb (dataBits f) (dataBits (d .last)) n));
-      end-differs =
-          λ n. own ∙ differing d f (rw (ne-eqb (endBit f) (endBit (d .last)) (λ e. n (omega (arith, e))), and-false));
-      agreed = λ b e. own ∙ agreeing d f (rw (eq-eqb (dataBits f) _ b, eq-eqb (endBit f) _ e));
+      kinds-differ = λ n. own ∙ differing d m (rw (ne-eqb (m .kind) (l .kind) n));
+      bits-differ = λ n. own ∙ differing d m (rw (ne-eqb (m .offset) (l .offset) n, and-false));
+      agreed = λ k b. own ∙ agreeing d m (rw (eq-eqb (m .kind) (l .kind) k, eq-eqb (m .offset) (l .offset) b));
       c1-uncounted =
-          set-or-not (λ g. takes d g ≡ takes d f) f (λ h. refl)
-          (λ n. own-returned d (f + c1) s (record { past = omega (arith, i .past) }) ∙ c1-set d f n ∙ sym own);
+          own-returned d (c1-frame f i) s (c1-data f i) ∙ ap (returned d) (c1-decoded f i) ∙ c1-set d m ∙ sym own;
     }
   where
-    own : takes d f ≡ returned d f
+    m : Message
+    m = decoded f
+
+    l : Message
+    l = decoded (d .last)
+
+    own : takes d f ≡ returned d m
     own = own-returned d f s i
 
+code-of : (j k x : ℕ) → k ≡ j → CodeOf k x → CodeOf j x
+code-of j k x e w = rw e at w
+
 pub idy-goes-on : IdyGoesOn
+unfolding messages firstIn firstOf codesIn codesOf
 idy-goes-on =
     record {
       not-handed = λ d f i. rw (idy-frame d f (i .first) (i .past));
       still-idy =
+          λ d f i. let w = marked-code d (decoded f) (idy-shows f (i .first) (i .past)) in
+          let e = ranged idy f (omega (arith, i .first)) (omega (arith, i .past)) in
+          let v = code-of idy (kindAt f) (marked d (decoded f)) (sym e) w in
+          rw (idy-frame d f (i .first) (i .past)) (record { first = omega (arith, v .0); past = omega (arith, v .1) });
+      same-bits =
           λ d f i. rw (idy-frame d f (i .first) (i .past))
-          (record { first = omega (arith, marked-above d f); past = marked-below d f 4 (i .past) });
-      same-bits = λ d f i. rw (idy-frame d f (i .first) (i .past)) (marked-bits d f);
+          (marked-bits d (decoded f) (idy-shows f (i .first) (i .past)));
       same-device = λ d f i. rw (idy-frame d f (i .first) (i .past));
     }
 
 pub service-shown : ServiceShown
-service-shown d f a s = told d f .shown a s
+service-shown d f b a s = told d f .shown b a s
 
-heard-same : (d : Device) (f : ℕ) → HasC1 f → heard d f .frame ≡ f
+-- a frame with C1 goes out as it came
+passed : (d : Device) (f : ℕ) → Shows (decoded f) → HasC1 f → marked d (decoded f) ≡ f
+passed d f s h = marked-same d (decoded f) h ∙ has f (free (kindAt f) (s .free) .listed) .frame
+
+heard-same : (d : Device) (f : ℕ) → Shows (decoded f) → HasC1 f → heard d (decoded f) .frame ≡ f
 unfolding heard
-heard-same d f h =
-    let m = marked-same d f h in
+heard-same d f s h =
+    let m = passed d f s h in
     chosen (λ (s : Sent). s .frame ≡ f) (eqb (d .listener) 1) _ _ (λ e. m) (λ e. m)
 
-dataOrEnd-same : (d : Device) (f : ℕ) → d .talker ≤ addressed → HasC1 f → dataOrEnd d f .frame ≡ f
+dataOrEnd-same : (d : Device) (f : ℕ) → d .talker ≤ addressed → Shows (decoded f) → HasC1 f →
+    dataOrEnd d (decoded f) .frame ≡ f
 unfolding dataOrEnd
-dataOrEnd-same d f t h =
+dataOrEnd-same d f t s h =
     chosen (λ (s : Sent). s .frame ≡ f) (sending d) _ _
-    (λ e. absurd (omega (arith, ltb-true addressed (d .talker) e))) (λ e. heard-same d f h)
+    (λ e. absurd (omega (arith, ltb-true addressed (d .talker) e))) (λ e. heard-same d f s h)
 
 pub c1-kept : C1Kept
 c1-kept =
     record {
-      on-data = λ d f t i h. rw (data-frame d f (i .past)) (dataOrEnd-same d f t h);
-      on-idy = λ d f i h. rw (idy-frame d f (i .first) (i .past)) (marked-same d f h);
+      on-data = λ d f t i h. rw (data-frame d f (i .past)) (dataOrEnd-same d f t (data-shows f (i .past)) h);
+      on-idy =
+          λ d f i h. rw (idy-frame d f (i .first) (i .past)) (passed d f (idy-shows f (i .first) (i .past)) h);
     }
 
 pub leaving-zeroes : LeavingZeroes

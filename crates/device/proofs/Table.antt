@@ -1,6 +1,7 @@
 -- Rows 1 to 13 hold: what is seen in each is computed and compared.
 use mathlib.Core.Path.{refl}
 use Rattle.frame.specs.Messages.{messages, kindAt, lookup, within, firstIn, firstOf}
+use Rattle.frame.specs.Decoding.{hasC1, offsetIn, c1In}
 use Rattle.device.specs.Choose.{choose}
 use Rattle.device.specs.PowerOn.{bytesFrom, powerOn}
 use Rattle.device.specs.Commands.{lad, tad, aau}
@@ -11,6 +12,6 @@ use Rattle.device.specs.Take.{takes}
 use Rattle.device.specs.Rows.{Rows}
 
 pub rows : Rows
-unfolding messages kindAt lookup within firstIn firstOf choose bytesFrom powerOn lad tad aau marked dataFrame otherByte
-    otherLength sendsData sendsOther continues requested polls sst nrd aad returned heard dataOrEnd takes
+unfolding messages kindAt lookup within firstIn firstOf hasC1 offsetIn c1In choose bytesFrom powerOn lad tad aau marked
+    dataFrame otherByte otherLength sendsData sendsOther continues requested polls sst nrd aad returned heard dataOrEnd takes
 rows = refl

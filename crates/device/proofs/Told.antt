@@ -1,7 +1,7 @@
 -- What is told of every frame: four sentences of specs/Sentences.antt together, so that the rules are gone through
 -- once.
 use Prim.Native.Nat.{ℕ, _+_, _≤_, _<_}
-use mathlib.Core.Path.{_≡_, refl}
+use mathlib.Core.Path.{_≡_, refl, ap}
 use mathlib.Core.Logic.{inl, inr, ⊎-elim}
 use mathlib.Core.Bool.{Bool, true}
 use native.Mathlib.Omega.{arith}
@@ -10,18 +10,20 @@ use lib.Dec.{eqb, ltb}
 use borrow.Author.Tests.{eqb-true, ltb-false}
 use Rattle.frame.specs.declared.Kind.the-variants.{Aad}
 use Rattle.frame.specs.Messages.{kindAt, messages, firstIn, firstOf, codesIn, codesOf}
+use Rattle.frame.specs.Decoding.{message, dab, end, hasC1, decoded}
+use Rattle.frame.specs.declared.Message.{Message}
 use Rattle.device.specs.Choose.{choose}
 use Rattle.device.specs.Device.{listen, status, autoAddress, unaddress, idle, addressed, sendingData}
 use Rattle.device.specs.Device.{sendingStatus, asking, has, talks, sending}
 use Rattle.device.specs.Change.{listening, talking, placed, counting}
 use Rattle.device.specs.Commands.{lad, tad, aau}
-use Rattle.device.specs.Reply.{eto, ete, sends, marked, stops, dataFrame, otherByte, otherLength, sendsData}
-use Rattle.device.specs.Reply.{sendsOther, continues}
+use Rattle.device.specs.Reply.{eto, ete, sends, marked, stops, dataFrame, otherByte, otherFrame, otherLength}
+use Rattle.device.specs.Reply.{sendsData, sendsOther, continues}
 use Rattle.device.specs.Ready.{requested, polls, sst, nrd, aad}
 use Rattle.device.specs.Data.{returned, heard, dataOrEnd}
 use Rattle.device.specs.Take.{rules, takes}
 use Rattle.device.specs.Classes.{IsCommand}
-use Rattle.device.specs.Sentences.{Of, HasC1, Sending, ShowsService, Zeroed}
+use Rattle.device.specs.Sentences.{Of, HasC1, Sending, ShowsService, OfBytes, Zeroed}
 use Rattle.device.specs.declared.Device.{Device}
 use Rattle.device.specs.declared.Handed.{Handed}
 use Rattle.device.specs.declared.Handed.the-variants.{Nothing}
@@ -29,7 +31,7 @@ use Rattle.device.specs.Sent.{Sent}
 use Rattle.device.proofs.Dispatch.{outside, elsewhere}
 use Rattle.device.proofs.Classes.{data-frame, idy-frame, aad-codes}
 use Rattle.device.proofs.Chosen.{chosen, selected}
-use Rattle.device.proofs.Marked.{marked-asks}
+use Rattle.device.proofs.Marked.{Shows, shows, data-shows, idy-shows, reply, other-small, marked-asks}
 
 -- e has d's talker state, or bytes 8, 14, 15, 16 zero
 abbrev pub Left : Device → Device → Type 0
@@ -40,7 +42,7 @@ pub record Told (d : Device) (f : ℕ) (s : Sent) : Type 0 where
   pub command : IsCommand f → s .frame ≡ f
   pub unhanded : Sending d → s .handed ≡ Nothing
   pub left : Sending d → Left d (s .device)
-  pub shown : s .device .service ≡ asking → ShowsService (s .frame) → HasC1 (s .frame)
+  pub shown : OfBytes d → s .device .service ≡ asking → ShowsService (s .frame) → HasC1 (s .frame)
 
 stays : (d e : Device) → e .talker ≡ d .talker → Left d e
 stays d e q n = absurd (n q)
@@ -48,14 +50,30 @@ stays d e q n = absurd (n q)
 zeroes : (d e : Device) (x : ℕ) → Left d (talking e x)
 zeroes d e x n = record { noted = refl; last = refl; replied = refl }
 
+-- what a device can reply with stays
+kept : (d : Device) (x : ℕ) → OfBytes d → OfBytes (talking d x)
+kept d x b = record { status = b .status; accessory = b .accessory; id = b .id; load = b .load }
+
+polls-kept : (d : Device) → OfBytes d → OfBytes (polls d)
+unfolding polls
+polls-kept d b =
+    chosen OfBytes (eqb (d .service) asking) _ d
+    (λ e. record { status = b .status; accessory = b .accessory; id = b .id; load = b .load }) (λ e. b)
+
 -- a command or a ready frame
 no-service : (f : ℕ) → 0x400 ≤ f → f < 0x600 → ShowsService f → ⊥
 no-service f l h = ⊎-elim (λ i. omega (arith, i .past)) (λ i. omega (arith, i .first))
 
-data-asks : (d : Device) → d .service ≡ asking → HasC1 (dataFrame d)
-unfolding dataFrame
-data-asks d a =
-    chosen HasC1 (eqb (d .sent + 1) (d .loadlength)) _ _ (λ e. marked-asks d _ a) (λ e. marked-asks d _ a)
+data-asks : (d : Device) → OfBytes d → d .service ≡ asking → HasC1 (dataFrame d)
+unfolding dataFrame hasC1
+data-asks d b a =
+    let o = b .load (d .sent) in
+    chosen HasC1 (eqb (d .sent + 1) (d .loadlength)) _ _ (λ e. marked-asks d _ (reply end _ refl o) a)
+    (λ e. marked-asks d _ (reply dab _ refl o) a)
+
+other-asks : (d : Device) → OfBytes d → d .service ≡ asking → HasC1 (otherFrame d)
+unfolding hasC1
+other-asks d b a = marked-asks d _ (reply dab (otherByte d) refl (other-small d b)) a
 
 -- ---- commands, and NRD
 
@@ -91,13 +109,14 @@ module _ (d : Device) where
 
 module _ (d : Device) (f : ℕ) (n : IsCommand f → ⊥) where
   -- the frame goes on, C1 set if service is 1
-  marks : (h : Handed) → (Sending d → h ≡ Nothing) → Told d f (record { device = d; frame = marked d f; handed = h })
-  marks h k =
+  marks : (m : Message) → Shows m → (h : Handed) → (Sending d → h ≡ Nothing) →
+      Told d f (record { device = d; frame = marked d m; handed = h })
+  marks m i h k =
       record {
         command = λ c. absurd (n c);
         unhanded = k;
         left = λ s. stays d d refl;
-        shown = λ a s. marked-asks d f a;
+        shown = λ b a s. marked-asks d m i a;
       }
 
   -- the device e, which is d or is made of d, answers or replies
@@ -108,17 +127,18 @@ module _ (d : Device) (f : ℕ) (n : IsCommand f → ⊥) where
           command = λ c. absurd (n c);
           unhanded = λ s. refl;
           left = λ s. zeroes d e addressed;
-          shown = λ a s. absurd (no-service x l h s);
+          shown = λ b a s. absurd (no-service x l h s);
         }
 
-    module _ (same : Sending d → e .talker ≡ d .talker) where
-      counting-told : (x s r : ℕ) → (e .service ≡ asking → HasC1 x) → Told d f (sends (counting e x s r) x)
+    module _ (same : Sending d → e .talker ≡ d .talker) (bytes : OfBytes d → OfBytes e) where
+      counting-told : (x s r : ℕ) → (OfBytes e → e .service ≡ asking → HasC1 x) →
+          Told d f (sends (counting e x s r) x)
       counting-told x s r h =
           record {
             command = λ c. absurd (n c);
             unhanded = λ s. refl;
             left = λ s. stays d _ (same s);
-            shown = λ a s. h a;
+            shown = λ b a s. h (bytes b) a;
           }
 
       data-told : Told d f (sendsData e)
@@ -127,7 +147,7 @@ module _ (d : Device) (f : ℕ) (n : IsCommand f → ⊥) where
 
       other-told : Told d f (sendsOther e)
       unfolding sendsOther
-      other-told = counting-told (marked e (otherByte e)) _ _ (marked-asks e (otherByte e))
+      other-told = counting-told (otherFrame e) _ _ (other-asks e)
 
       continues-told : Told d f (continues e)
       unfolding continues
@@ -137,31 +157,32 @@ module _ (d : Device) (f : ℕ) (n : IsCommand f → ⊥) where
           (λ t. chosen (Told d f) (ltb (e .sent) (e .loadlength)) _ _ (λ l. data-told) (λ l. ends))
           (λ t. chosen (Told d f) (ltb (e .replied) (otherLength e)) _ _ (λ l. other-told) (λ l. ends))
 
-  returned-told : Told d f (returned d f)
+  returned-told : (m : Message) → Told d f (returned d m)
   unfolding returned
-  returned-told =
+  returned-told m =
       chosen (Told d f) _ _ _
       (λ e. chosen (Told d f) (eqb (d .noted) 1) _ _ (λ e. stops-told d eto (omega arith) (omega arith))
-      (λ e. continues-told d (λ s. refl)))
+      (λ e. continues-told d (λ s. refl) (λ b. b)))
       (λ e. stops-told d ete (omega arith) (omega arith))
 
-  heard-told : d .talker ≤ addressed → Told d f (heard d f)
+  heard-told : (m : Message) → Shows m → d .talker ≤ addressed → Told d f (heard d m)
   unfolding heard
-  heard-told t =
-      chosen (Told d f) (eqb (d .listener) 1) _ _ (λ e. marks _ (λ s. absurd (omega arith)))
-      (λ e. marks Nothing (λ s. refl))
+  heard-told m i t =
+      chosen (Told d f) (eqb (d .listener) 1) _ _ (λ e. marks m i _ (λ s. absurd (omega arith)))
+      (λ e. marks m i Nothing (λ s. refl))
 
-  dataOrEnd-told : Told d f (dataOrEnd d f)
+  dataOrEnd-told : (m : Message) → Shows m → Told d f (dataOrEnd d m)
   unfolding dataOrEnd
-  dataOrEnd-told =
-      chosen (Told d f) (sending d) _ _ (λ e. returned-told) (λ e. heard-told (ltb-false addressed (d .talker) e))
+  dataOrEnd-told m i =
+      chosen (Told d f) (sending d) _ _ (λ e. returned-told m)
+      (λ e. heard-told m i (ltb-false addressed (d .talker) e))
 
 -- ---- frames that go on unchanged where no rule says otherwise
 
 module _ (d : Device) (f : ℕ) (q : ShowsService f → ⊥) where
   passes : (e : Device) → Left d e → Told d f (sends e f)
   passes e l =
-      record { command = λ c. refl; unhanded = λ s. refl; left = λ s. l; shown = λ a s. absurd (q s) }
+      record { command = λ c. refl; unhanded = λ s. refl; left = λ s. l; shown = λ b a s. absurd (q s) }
 
   still : Told d f (sends d f)
   still = passes d (stays d d refl)
@@ -179,35 +200,35 @@ module _ (d : Device) (f : ℕ) (q : ShowsService f → ⊥) where
             command = λ c. omega (arith, c .past);
             unhanded = λ s. refl;
             left = λ s. stays d _ refl;
-            shown = λ a s. absurd (no-service (f + 1) (omega arith) (omega arith) s);
+            shown = λ b a s. absurd (no-service (f + 1) (omega arith) (omega arith) s);
           }
 
   module _ (n : IsCommand f → ⊥) where
     -- only an addressed device starts a reply, and that one is not sending
-    starts : (able : Bool) (e : Device) →
+    starts : (able : Bool) (e : Device) → (OfBytes d → OfBytes e) →
         Told d f (choose (eqb (d .talker) addressed) (choose able (continues e) (sends d f)) (sends d f))
-    starts able e =
+    starts able e b =
         chosen (Told d f) (eqb (d .talker) addressed) _ _
         (λ t. chosen (Told d f) able _ _
-        (λ h. continues-told d f n e (λ s. omega (arith, eqb-true (d .talker) addressed t))) (λ h. still))
+        (λ h. continues-told d f n e (λ s. omega (arith, eqb-true (d .talker) addressed t)) b) (λ h. still))
         (λ t. still)
 
     requested-told : (ability state : ℕ) → Told d f (requested d f ability state)
     unfolding requested
-    requested-told ability state = starts (has d ability) (talking d state)
+    requested-told ability state = starts (has d ability) (talking d state) (kept d state)
 
     sst-told : Told d f (sst d f)
     unfolding sst
-    sst-told = starts (has d status) (talking (polls d) sendingStatus)
+    sst-told = starts (has d status) (talking (polls d) sendingStatus) (λ b. kept (polls d) sendingStatus (polls-kept d b))
 
   no-command : (k : ℕ) → outside 0x400 0x500 k ≡ true → kindAt f ≡ k → IsCommand f → ⊥
   no-command k o e c = elsewhere 0x400 0x500 f k (c .first) (c .past) o e
 
   -- whichever rule is selected
   rules-told : Told d f (takes d f)
-  unfolding takes messages firstIn firstOf codesIn codesOf
+  unfolding takes messages firstIn firstOf codesIn codesOf hasC1
   rules-told =
-      selected (Told d f) (kindAt f) (rules d f) (sends d f) still
+      selected (Told d f) (kindAt f) (rules d f (decoded f)) (sends d f) still
       (λ e. passes _ (lad-left d _))
       (λ e. passes _ (stays d _ refl))
       (λ e. passes _ (tad-left d _))
@@ -220,9 +241,9 @@ module _ (d : Device) (f : ℕ) (q : ShowsService f → ⊥) where
       (λ e. requested-told (no-command _ refl e) _ _)
       (λ e. passes _ (nrd-left d))
       (λ e. aad-told e _)
-      (λ e. dataOrEnd-told d f (no-command _ refl e))
-      (λ e. dataOrEnd-told d f (no-command _ refl e))
-      (λ e. marks d f (no-command _ refl e) Nothing (λ s. refl))
+      (λ e. dataOrEnd-told d f (no-command _ refl e) _ (shows f (ap hasC1 e)))
+      (λ e. dataOrEnd-told d f (no-command _ refl e) _ (shows f (ap hasC1 e)))
+      (λ e. marks d f (no-command _ refl e) _ (shows f (ap hasC1 e)) Nothing (λ s. refl))
 
 shows? : (f : ℕ) → Dec (ShowsService f)
 shows? f = go (decLt f 0x400) (decLt f 0x600) (decLt f 0x800)
@@ -237,6 +258,9 @@ pub told : (d : Device) (f : ℕ) → Told d f (takes d f)
 told d f = go (shows? f)
   where
     go : Dec (ShowsService f) → Told d f (takes d f)
-    go (yes (inl i)) = rw (data-frame d f (i .past)) (dataOrEnd-told d f (λ c. omega arith))
-    go (yes (inr i)) = rw (idy-frame d f (i .first) (i .past)) (marks d f (λ c. omega arith) Nothing (λ s. refl))
+    go (yes (inl i)) =
+        rw (data-frame d f (i .past)) (dataOrEnd-told d f (λ c. omega arith) _ (data-shows f (i .past)))
+    go (yes (inr i)) =
+        rw (idy-frame d f (i .first) (i .past))
+        (marks d f (λ c. omega arith) _ (idy-shows f (i .first) (i .past)) Nothing (λ s. refl))
     go (no q) = rules-told d f q

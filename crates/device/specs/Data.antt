@@ -1,44 +1,44 @@
--- Data or end, and identify (01, What a device does with a frame; 02, b).
-use Prim.Native.Nat.{ℕ, _/_, _%_}
-use mathlib.Core.Bool.{Bool, _&&_}
+-- Data or end, and identify (01, What a device does with a frame; 02, b and g): the rules see a frame's decoding alone.
+use Prim.Native.Nat.{ℕ}
+use mathlib.Core.Bool.{Bool, _&&_, cond}
 use lib.Dec.{eqb}
+use Rattle.frame.specs.Decoding.{end, decoded}
+use Rattle.frame.specs.declared.Message.{Message}
 use Rattle.device.specs.Choose.{choose}
 use Rattle.device.specs.Device.{sending}
-use Rattle.device.specs.Reply.{eto, ete, c1, c2, sends, marked, stops, continues}
+use Rattle.device.specs.Reply.{eto, ete, sends, marked, stops, continues}
 use Rattle.device.specs.declared.Device.{Device}
 use Rattle.device.specs.Sent.{Sent}
 use Rattle.device.specs.declared.Handed.the-variants.{Byte}
 
--- the eight data bits of a frame, and its end bit C2
-abbrev pub dataBits : ℕ → ℕ
-dataBits f = f % c1
+-- the end bit, C2 of a data byte: END has it, DAB does not
+abbrev pub endBit : Message → ℕ
+endBit m = cond (eqb (m .kind) end) 1 0
 
-abbrev pub endBit : ℕ → ℕ
-endBit f = f / c2 % 2
-
--- a byte come back agrees with the last frame sent: in its data bits and in C2 (02, b), and C1 does not count
-abbrev pub agrees : ℕ → ℕ → Bool
-agrees f last = eqb (dataBits f) (dataBits last) && eqb (endBit f) (endBit last)
+-- a byte come back agrees with the last one sent: in its kind, DAB or END, which is C2, and in its data bits; C1 does
+-- not count (02, b)
+abbrev pub agrees : Message → Message → Bool
+agrees m last = eqb (m .kind) (last .kind) && eqb (m .offset) (last .offset)
 
 -- its own frame come back: ETE if it does not agree with the last frame sent, else ETO if NRD was noted, else what
 -- `continues` gives: the next byte, or ETO if nothing is left
-unfoldable pub returned : Device → ℕ → Sent
-returned d f =
-    choose (agrees f (d .last))
+unfoldable pub returned : Device → Message → Sent
+returned d m =
+    choose (agrees m (decoded (d .last)))
     (choose (eqb (d .noted) 1) (stops d eto) (continues d))
     (stops d ete)
 
 -- a listener is handed the byte, and the frame goes on
-unfoldable pub heard : Device → ℕ → Sent
-heard d f =
+unfoldable pub heard : Device → Message → Sent
+heard d m =
     choose (eqb (d .listener) 1)
-    (record { device = d; frame = marked d f; handed = Byte (dataBits f) (endBit f) })
-    (sends d (marked d f))
+    (record { device = d; frame = marked d m; handed = Byte (m .offset) (endBit m) })
+    (sends d (marked d m))
 
 -- in states 2-5 it is the device's own frame
-unfoldable pub dataOrEnd : Device → ℕ → Sent
-dataOrEnd d f = choose (sending d) (returned d f) (heard d f)
+unfoldable pub dataOrEnd : Device → Message → Sent
+dataOrEnd d m = choose (sending d) (returned d m) (heard d m)
 
 -- IDY goes on in every state
-abbrev pub idy : Device → ℕ → Sent
-idy d f = sends d (marked d f)
+abbrev pub idy : Device → Message → Sent
+idy d m = sends d (marked d m)

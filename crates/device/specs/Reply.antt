@@ -1,7 +1,9 @@
 -- Frames sent, and the replies of a talker (01, What a device does with a frame, from "Reply bytes are DAB").
-use Prim.Native.Nat.{ℕ, _+_, _/_, _%_}
+use Prim.Native.Nat.{ℕ, _+_}
 use lib.Dec.{eqb, ltb}
 use lib.ListN.{getD}
+use Rattle.frame.specs.Decoding.{message, dab, end, frameOf}
+use Rattle.frame.specs.declared.Message.{Message}
 use Rattle.device.specs.Choose.{choose}
 use Rattle.device.specs.Device.{addressed, sendingData, sendingStatus, sendingDeviceID, asking}
 use Rattle.device.specs.Change.{talking, counting}
@@ -16,24 +18,17 @@ eto = 0x540
 abbrev pub ete : ℕ
 ete = 0x541
 
--- the control bits C1 and C2 as numbers
-abbrev pub c1 : ℕ
-c1 = 0x100
-
-abbrev pub c2 : ℕ
-c2 = 0x200
-
 -- the frame f goes out, and nothing is handed over
 abbrev pub sends : Device → ℕ → Sent
 sends d f = record { device = d; frame = f; handed = Nothing }
 
--- the frame with C1 set
-abbrev pub withC1 : ℕ → ℕ
-withC1 f = choose (eqb (f / c1 % 2) 1) f (f + c1)
+-- the same message with C1 set
+abbrev pub withC1 : Message → Message
+withC1 m = message (m .kind) (m .offset) 1
 
--- a DAB, END or IDY as it goes out: C1 is set if service is 1
-unfoldable pub marked : Device → ℕ → ℕ
-marked d f = choose (eqb (d .service) asking) (withC1 f) f
+-- the frame of a DAB, END or IDY as it goes out: C1 is set if service is 1, else it is as it was
+unfoldable pub marked : Device → Message → ℕ
+marked d m = choose (eqb (d .service) asking) (frameOf (withC1 m)) (frameOf m)
 
 -- to state 1 with the answer e, ETO or ETE
 abbrev pub stops : Device → ℕ → Sent
@@ -43,8 +38,8 @@ stops d e = sends (talking d addressed) e
 unfoldable pub dataFrame : Device → ℕ
 dataFrame d =
     choose (eqb (d .sent + 1) (d .loadlength))
-    (marked d (getD (d .load) (d .sent) 0 + c2))
-    (marked d (getD (d .load) (d .sent) 0))
+    (marked d (message end (getD (d .load) (d .sent) 0) 0))
+    (marked d (message dab (getD (d .load) (d .sent) 0) 0))
 
 -- the next byte of another reply: the status, a byte of the ID, the accessory ID
 unfoldable pub otherByte : Device → ℕ
@@ -52,6 +47,10 @@ otherByte d =
     choose (eqb (d .talker) sendingStatus) (d .status)
     (choose (eqb (d .talker) sendingDeviceID) (getD (d .id) (d .replied) 0)
     (d .accessory))
+
+-- its frame
+abbrev pub otherFrame : Device → ℕ
+otherFrame d = marked d (message dab (otherByte d) 0)
 
 -- how many bytes it has
 unfoldable pub otherLength : Device → ℕ
@@ -63,7 +62,7 @@ sendsData d = sends (counting d (dataFrame d) (d .sent + 1) (d .replied)) (dataF
 
 -- a byte of another reply goes out
 unfoldable pub sendsOther : Device → Sent
-sendsOther d = sends (counting d (marked d (otherByte d)) (d .sent) (d .replied + 1)) (marked d (otherByte d))
+sendsOther d = sends (counting d (otherFrame d) (d .sent) (d .replied + 1)) (otherFrame d)
 
 -- the next byte of the reply; ETO if nothing is left
 unfoldable pub continues : Device → Sent

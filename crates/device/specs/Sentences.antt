@@ -1,17 +1,18 @@
 -- Sentences of 01, "What a device does with a frame", in its order, and of 02, b: each holds for every device, sound or
 -- not, and every frame. Proved in proofs/Sentences.antt.
-use Prim.Native.Nat.{ℕ, _≤_, _<_, _/_, _%_}
+use Prim.Native.Nat.{ℕ, _≤_, _<_}
 use mathlib.Core.Path.{_≡_}
 use mathlib.Core.Logic.{_⊎_}
 use lib.Dec.{eqb}
+use lib.ListN.{getD}
 use Rattle.frame.specs.declared.Kind.{Kind}
 use Rattle.frame.specs.declared.Kind.the-variants.{Lad, Tad, Aad}
-use Rattle.frame.specs.Messages.{kindAt, numberOf}
+use Rattle.frame.specs.Messages.{numberOf}
+use Rattle.frame.specs.Decoding.{decoded, frameOf}
 use Rattle.device.specs.Choose.{choose}
 use Rattle.device.specs.Device.{idle, addressed, asking, noAddress}
 use Rattle.device.specs.Change.{talking}
-use Rattle.device.specs.Reply.{eto, ete, c1, sends, withC1, stops, continues}
-use Rattle.device.specs.Data.{dataBits, endBit}
+use Rattle.device.specs.Reply.{eto, ete, sends, withC1, stops, continues}
 use Rattle.device.specs.Take.{takes}
 use Rattle.device.specs.Classes.{IsData, IsCommand, IsIdentify}
 use Rattle.device.specs.declared.Device.{Device}
@@ -19,11 +20,11 @@ use Rattle.device.specs.declared.Handed.the-variants.{Nothing}
 
 -- the frame is of this kind
 abbrev pub Of : Kind → ℕ → Type 0
-Of k f = kindAt f ≡ numberOf k
+Of k f = decoded f .kind ≡ numberOf k
 
 -- its control bit C1 is set
 abbrev pub HasC1 : ℕ → Type 0
-HasC1 f = f / c1 % 2 ≡ 1
+HasC1 f = decoded f .c1 ≡ 1
 
 -- talker states 2-5, and what is above them in a device that is not sound
 abbrev pub Sending : Device → Type 0
@@ -55,14 +56,14 @@ OwnNotPassed =
     (d : Device) (f : ℕ) → Sending d → IsData f →
     (takes d f ≡ stops d ete) ⊎ ((takes d f ≡ stops d eto) ⊎ (takes d f ≡ continues d))
 
--- It is held to the last frame sent (02, b): ETE where a data bit or C2 differs; where they agree, ETO if NRD was
--- noted, else the next byte, or ETO if nothing is left. C1 does not count.
+-- It is held to the last frame sent (02, b): ETE where C2, which tells DAB and END apart, or a data bit differs; where
+-- they agree, ETO if NRD was noted, else the next byte, or ETO if nothing is left. C1 does not count.
 pub record Compared (d : Device) (f : ℕ) : Type 0 where
-  pub bits-differ : (dataBits f ≡ dataBits (d .last) → ⊥) → takes d f ≡ stops d ete
-  pub end-differs : (endBit f ≡ endBit (d .last) → ⊥) → takes d f ≡ stops d ete
-  pub agreed : dataBits f ≡ dataBits (d .last) → endBit f ≡ endBit (d .last) →
+  pub kinds-differ : (decoded f .kind ≡ decoded (d .last) .kind → ⊥) → takes d f ≡ stops d ete
+  pub bits-differ : (decoded f .offset ≡ decoded (d .last) .offset → ⊥) → takes d f ≡ stops d ete
+  pub agreed : decoded f .kind ≡ decoded (d .last) .kind → decoded f .offset ≡ decoded (d .last) .offset →
       takes d f ≡ choose (eqb (d .noted) 1) (stops d eto) (continues d)
-  pub c1-uncounted : takes d (withC1 f) ≡ takes d f
+  pub c1-uncounted : takes d (frameOf (withC1 (decoded f))) ≡ takes d f
 
 abbrev pub OwnCompared : Type 0
 OwnCompared = (d : Device) (f : ℕ) → Sending d → IsData f → Compared d f
@@ -71,17 +72,25 @@ OwnCompared = (d : Device) (f : ℕ) → Sending d → IsData f → Compared d f
 pub record IdyGoesOn : Type 0 where
   pub not-handed : (d : Device) (f : ℕ) → IsIdentify f → takes d f .handed ≡ Nothing
   pub still-idy : (d : Device) (f : ℕ) → IsIdentify f → IsIdentify (takes d f .frame)
-  pub same-bits : (d : Device) (f : ℕ) → IsIdentify f → dataBits (takes d f .frame) ≡ dataBits f
+  pub same-bits : (d : Device) (f : ℕ) → IsIdentify f →
+      decoded (takes d f .frame) .offset ≡ decoded f .offset
   pub same-device : (d : Device) (f : ℕ) → IsIdentify f → takes d f .device ≡ d
 
 -- a DAB, END or IDY
 abbrev pub ShowsService : ℕ → Type 0
 ShowsService f = IsData f ⊎ IsIdentify f
 
+-- what a device can reply with is bytes, as in every record
+pub record OfBytes (d : Device) : Type 0 where
+  pub status : d .status < 256
+  pub accessory : d .accessory < 256
+  pub id : (i : ℕ) → getD (d .id) i 0 < 256
+  pub load : (i : ℕ) → getD (d .load) i 0 < 256
+
 -- Every DAB, END or IDY sent has C1 set if service, after the frame, is 1.
 abbrev pub ServiceShown : Type 0
 ServiceShown =
-    (d : Device) (f : ℕ) → takes d f .device .service ≡ asking → ShowsService (takes d f .frame) →
+    (d : Device) (f : ℕ) → OfBytes d → takes d f .device .service ≡ asking → ShowsService (takes d f .frame) →
     HasC1 (takes d f .frame)
 
 -- C1 is never cleared on a frame passed: with C1 set, data, end and IDY go on as they came.

@@ -1,11 +1,14 @@
--- What a device does with a frame of each kind: a rule a kind, and every kind without a rule goes on unchanged.
-use Prim.Native.Nat.{ℕ, _-_}
+-- What a device does with a frame of each kind: a rule a kind, and every kind without a rule goes on unchanged. A frame
+-- is decoded once, here, and the rules take its address, data bits and C1 from that (02, g).
+use Prim.Native.Nat.{ℕ}
 use mathlib.Core.List.{List, [], _∷_}
 use lib.Dec.{eqb}
 use Rattle.frame.specs.declared.Kind.{Kind}
 use Rattle.frame.specs.declared.Kind.the-variants.{Dab, End, Lad, Unl, Tad, Unt, Ifc, Aau, Nrd, Sda, Sst, Sdi, Sai, Aad}
 use Rattle.frame.specs.declared.Kind.the-variants.{Idy}
-use Rattle.frame.specs.Messages.{numberOf, kindAt, firstOf}
+use Rattle.frame.specs.Messages.{numberOf}
+use Rattle.frame.specs.Decoding.{decoded}
+use Rattle.frame.specs.declared.Message.{Message}
 use Rattle.device.specs.Choose.{choose}
 use Rattle.device.specs.Device.{sendData, deviceID, accessoryID, sendingData, sendingDeviceID, sendingAccessoryID}
 use Rattle.device.specs.Commands.{lad, unl, tad, unt, ifc, aau}
@@ -22,15 +25,12 @@ pub record Rule : Type 0 where
 abbrev pub on : Kind → Sent → Rule
 on k s = record { kind = numberOf k; gives = s }
 
--- a message's number: the frame less its kind's first code
-abbrev pub number : Kind → ℕ → ℕ
-number k f = f - firstOf (numberOf k)
-
-abbrev pub rules : Device → ℕ → List Rule
-rules d f =
-    on Lad (sends (lad d (number Lad f)) f) ∷
+-- the rules for the frame f, decoded as m
+abbrev pub rules : Device → ℕ → Message → List Rule
+rules d f m =
+    on Lad (sends (lad d (m .offset)) f) ∷
     on Unl (sends (unl d) f) ∷
-    on Tad (sends (tad d (number Tad f)) f) ∷
+    on Tad (sends (tad d (m .offset)) f) ∷
     on Unt (sends (unt d) f) ∷
     on Ifc (sends (ifc d) f) ∷
     on Aau (sends (aau d) f) ∷
@@ -39,10 +39,10 @@ rules d f =
     on Sdi (requested d f deviceID sendingDeviceID) ∷
     on Sai (requested d f accessoryID sendingAccessoryID) ∷
     on Nrd (sends (nrd d) f) ∷
-    on Aad (aad d f (number Aad f)) ∷
-    on Dab (dataOrEnd d f) ∷
-    on End (dataOrEnd d f) ∷
-    on Idy (idy d f) ∷
+    on Aad (aad d f (m .offset)) ∷
+    on Dab (dataOrEnd d m) ∷
+    on End (dataOrEnd d m) ∷
+    on Idy (idy d m) ∷
     []
 
 -- what the rule of kind k gives; s where there is none
@@ -51,4 +51,4 @@ select k [] s = s
 select k (r ∷ rs) s = choose (eqb k (r .kind)) (r .gives) (select k rs s)
 
 unfoldable pub takes : Device → ℕ → Sent
-takes d f = select (kindAt f) (rules d f) (sends d f)
+takes d f = select (decoded f .kind) (rules d f (decoded f)) (sends d f)

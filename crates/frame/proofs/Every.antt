@@ -1,14 +1,15 @@
 -- What holds of all 43 kinds is one computed test over a list of them, since the list has each kind at its number. So a
 -- kind's number is its own, and is the place of its variant.
-use Prim.Native.Nat.{ℕ, zero, suc}
+use Prim.Native.Nat.{ℕ, zero, suc, _≤_}
 use mathlib.Core.Path.{_≡_, refl, sym, ap, _∙_}
 use mathlib.Core.List.{List, [], _∷_}
-use mathlib.Core.Bool.{Bool, true, _&&_}
-use lib.Dec.{T, eqb, eqb→eq}
+use mathlib.Core.Bool.{Bool, true, false, _&&_, _||_}
+use lib.Dec.{T, eqb, eqb→eq, leb, leb→le}
 use lib.ListN.{getD}
 use mir.Facts.{and-yes}
 use denote.Enum.Declared.{tagOf}
-use Rattle.frame.specs.Messages.{numberOf}
+use Rattle.frame.specs.Messages.{numberOf, messages, codesIn, codesOf}
+use Rattle.frame.specs.Decoding.{hasC1}
 use Rattle.frame.specs.Laws.{OneKind}
 use Rattle.frame.specs.declared.Kind.{Kind}
 use Rattle.frame.specs.declared.Kind.the-variants as kind
@@ -79,8 +80,14 @@ each p [] n u t = u
 each p (k ∷ ks) zero u t = and-yes (p k) (all p ks) t .0
 each p (k ∷ ks) (suc n) u t = each p ks n u (and-yes (p k) (all p ks) t .1)
 
+every : (p : Kind → Bool) → T (p kind.Unused) → T (all p all-kinds) → (k : Kind) → T (p k)
+every p u t k = rw (placed k) at (each p all-kinds (numberOf k) u t)
+
 -- The place of a kind's variant, by which a match goes, is the kind's number
 pub tag : (k : Kind) → tagOf the-type k ≡ numberOf k
-tag k =
-    let p : Kind → Bool = λ j. eqb (tagOf the-type j) (numberOf j) in
-    eqb→eq _ _ (rw (placed k) at (each p all-kinds (numberOf k) tt tt))
+tag k = eqb→eq _ _ (every (λ j. eqb (tagOf the-type j) (numberOf j)) tt tt k)
+
+-- A kind without C1 has at most 256 codes
+pub short : (k : Kind) → hasC1 (numberOf k) ≡ false → codesOf (numberOf k) ≤ 256
+unfolding messages codesIn codesOf hasC1
+short k h = leb→le _ _ (rw h at (every (λ j. hasC1 (numberOf j) || leb (codesOf (numberOf j)) 256) tt tt k))

@@ -1,4 +1,5 @@
--- The definitions of the codes: the message table, the answers in numbers, and the laws between them.
+-- The definitions of the codes: the message table, the one decoding, the answers, and the laws between them.
 pub mod Messages
+pub mod Decoding
 pub mod Coding
 pub mod Laws

@@ -1,11 +1,18 @@
-// The codes of the loop: the kind of a frame, and the frame of a kind.
+// The codes of the loop: the one decoding of a frame (its kind, its offset in the kind, and C1), and the frame that
+// these three make. No other crate takes a frame apart.
 ghost use mathlib.Core.Path.{_≡_};
 ghost use Prim.Native.Nat.{_<_};
-ghost use Rattle.frame.specs.Messages.{kinds, kindAt, numberOf, firstOf, codesOf};
-ghost use Rattle.frame.specs.Coding.{decodedAs, decodeOf, encodedAs, encodeOf};
+ghost use Rattle.frame.specs.Messages.{kinds, kindAt, numberOf, firstOf};
+ghost use Rattle.frame.specs.Decoding.{message, bitsOf, hasC1, decoded, offsetsOf, c1sOf, Coded};
+ghost use Rattle.frame.specs.Coding.{decodeOf, encodeOf};
 
 // Frames are the numbers below this.
 pub const FRAMES: usize = 2048;
+
+// The control bits C1 and C2, each as what it adds to a frame.
+pub const C1: u16 = 0x100;
+
+pub const C2: u16 = 0x200;
 
 // The refusal BadFrame.
 pub const BAD_FRAME: u8 = 4;
@@ -57,9 +64,23 @@ pub enum Kind {
     Idy,
 }
 
-// What the decoder answers: the kind, or refusal 4.
+// A frame decoded, its kind as a number.
+pub struct Message {
+    pub kind: u8,
+    pub offset: u8,
+    pub c1: u8,
+}
+
+// A frame cut into its bits: the data bits, C1, and C3 C2 above it. DAB, END and IDY are decoded by these alone.
+pub struct Bits {
+    pub low: u8,
+    pub c1: u8,
+    pub upper: u8,
+}
+
+// What the decoder answers: the decoding, or refusal 4.
 pub enum Decoded {
-    Of(Kind),
+    Of(Message),
     BadFrame,
 }
 
@@ -118,16 +139,6 @@ pub fn kind_of(frame: u16) -> Kind
         0x600..=0x7ff => Kind::Idy,
         _ => Kind::Unused,
     }
-}
-
-// The decoder.
-pub fn decode(frame: u64) -> Decoded
-    ensures { λ r. ⌜ decodedAs r ≡ decodeOf frame ⌝ }
-{
-    if FRAMES as u64 <= frame {
-        return Decoded::BadFrame;
-    }
-    Decoded::Of(kind_of(frame as u16))
 }
 
 // A kind's number in the list.
@@ -231,11 +242,11 @@ const FIRST: [u16; KINDS] = [
     0x600, // IDY
 ];
 
-// How many codes each kind has.
-const CODES: [u16; KINDS] = [
+// How many offsets each kind has; a kind with C1 has each of them twice.
+const OFFSETS: [u16; KINDS] = [
     0,
-    512, // DAB
-    512, // END
+    256, // DAB
+    256, // END
     1, // NUL
     1, // GTL
     1, // SDC
@@ -275,7 +286,7 @@ const CODES: [u16; KINDS] = [
     1, // IES
     31, // AMP
     1, // IMP
-    512, // IDY
+    256, // IDY
 ];
 
 fn first(kind: usize) -> u16
@@ -285,66 +296,93 @@ fn first(kind: usize) -> u16
     FIRST[kind]
 }
 
-fn codes(kind: usize) -> u16
+fn offsets(kind: usize) -> u16
     requires { ⌜ kind < kinds ⌝ }
-    ensures { λ r. ⌜ r ≡ codesOf kind ⌝ }
+    ensures { λ r. ⌜ r ≡ offsetsOf kind ⌝ }
 {
-    CODES[kind]
+    OFFSETS[kind]
+}
+
+// DAB, END and IDY have a C1.
+fn has_c1(kind: u8) -> bool
+    ensures { λ r. ⌜ r ≡ hasC1 kind ⌝ }
+{
+    (kind == 1) | ((kind == 2) | (kind == 42))
+}
+
+// How many values a kind's C1 has.
+fn c1s(kind: u8) -> u8
+    ensures { λ r. ⌜ r ≡ c1sOf kind ⌝ }
+{
+    if has_c1(kind) {
+        return 2;
+    }
+    1
+}
+
+pub fn bits_of(frame: u16) -> Bits
+    ensures { λ r. ⌜ r ≡ bitsOf frame ⌝ }
+{
+    Bits {
+        low: (frame % C1) as u8,
+        c1: (frame / C1 % 2) as u8,
+        upper: (frame / C2) as u8,
+    }
+}
+
+// The offset of a frame in its kind, a kind of the list without C1.
+pub fn offset_of(kind: Kind, frame: u16) -> u8
+    requires { ⌜ Coded (numberOf kind) frame ⌝ }
+    ensures { λ r. ⌜ r ≡ decoded frame .offset ⌝ }
+{
+    (frame - first(number(kind) as usize)) as u8
+}
+
+// The decoder.
+pub fn decode(frame: u64) -> Decoded
+    ensures { λ r. ⌜ r ≡ decodeOf frame ⌝ }
+{
+    if FRAMES as u64 <= frame {
+        return Decoded::BadFrame;
+    }
+    let f = frame as u16;
+    let kind = kind_of(f);
+    let k = number(kind);
+    if has_c1(k) {
+        let bits = bits_of(f);
+        return Decoded::Of(Message {
+            kind: k,
+            offset: bits.low,
+            c1: bits.c1,
+        });
+    }
+    if k == 0 {
+        return Decoded::Of(Message {
+            kind: 0,
+            offset: 0,
+            c1: 0,
+        });
+    }
+    Decoded::Of(Message {
+        kind: k,
+        offset: offset_of(kind, f),
+        c1: 0,
+    })
 }
 
 // The encoder.
-pub fn encode(kind: u64, offset: u64) -> Encoded
-    ensures { λ r. ⌜ encodedAs r ≡ encodeOf kind offset ⌝ }
+pub fn encode(kind: u64, offset: u64, c1: u64) -> Encoded
+    ensures { λ r. ⌜ r ≡ encodeOf (message kind offset c1) ⌝ }
 {
     if KINDS as u64 <= kind {
         return Encoded::BadFrame;
     }
     let k = kind as usize;
-    if offset < codes(k) as u64 {
-        Encoded::Frame(first(k) + offset as u16)
-    } else {
-        Encoded::BadFrame
+    if offsets(k) as u64 <= offset {
+        return Encoded::BadFrame;
     }
-}
-
-// The answer's numbers: a refusal carries its number and otherwise zeros.
-impl Decoded {
-    pub fn refusal(self) -> u8
-        ensures { λ r. ⌜ r ≡ decodedAs self .refusal ⌝ }
-    {
-        match self {
-            Decoded::Of(_) => 0,
-            Decoded::BadFrame => BAD_FRAME,
-        }
+    if c1s(kind as u8) as u64 <= c1 {
+        return Encoded::BadFrame;
     }
-
-    pub fn kind(self) -> u8
-        ensures { λ r. ⌜ r ≡ decodedAs self .kind ⌝ }
-    {
-        match self {
-            Decoded::Of(k) => number(k),
-            Decoded::BadFrame => 0,
-        }
-    }
-}
-
-// The answer's numbers, likewise.
-impl Encoded {
-    pub fn refusal(self) -> u8
-        ensures { λ r. ⌜ r ≡ encodedAs self .refusal ⌝ }
-    {
-        match self {
-            Encoded::Frame(_) => 0,
-            Encoded::BadFrame => BAD_FRAME,
-        }
-    }
-
-    pub fn frame(self) -> u16
-        ensures { λ r. ⌜ r ≡ encodedAs self .frame ⌝ }
-    {
-        match self {
-            Encoded::Frame(f) => f,
-            Encoded::BadFrame => 0,
-        }
-    }
+    Encoded::Frame(first(k) + offset as u16 + C1 * c1 as u16)
 }

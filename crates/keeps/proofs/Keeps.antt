@@ -1,14 +1,16 @@
 -- The theorems of specs/Keeps.antt: rule by rule in the papers' order, and then whichever rule the frame's kind
 -- selects.
-use Prim.Native.Nat.{ℕ, _-_, _≤_, _<_}
-use mathlib.Core.Path.{_≡_, refl}
+use Prim.Native.Nat.{ℕ, _≤_, _<_}
+use mathlib.Core.Path.{_≡_, refl, ap}
 use mathlib.Core.Bool.{Bool, true}
 use native.Mathlib.Omega.{arith}
 use lib.Dec.{eqb, ltb}
 use lib.ListN.{length}
 use borrow.Author.Tests.{eqb-true, eqb-false, ltb-true, ltb-false}
 use Rattle.frame.specs.declared.Kind.the-variants.{Aad}
-use Rattle.frame.specs.Messages.{kindAt, firstOf, messages, firstIn}
+use Rattle.frame.specs.Messages.{kindAt}
+use Rattle.frame.specs.Decoding.{hasC1, decoded}
+use Rattle.frame.specs.declared.Message.{Message}
 use Rattle.device.specs.Choose.{choose}
 use Rattle.device.specs.Device.{has, talks, sendData, status, sending}
 use Rattle.device.specs.Change.{listening, talking}
@@ -16,13 +18,13 @@ use Rattle.device.specs.Commands.{lad, tad, ifc, aau}
 use Rattle.device.specs.Reply.{sends, marked, eto, ete}
 use Rattle.device.specs.Ready.{requested, polls, sst, nrd, aad}
 use Rattle.device.specs.Data.{returned, heard, dataOrEnd}
-use Rattle.device.specs.Take.{number, rules, takes}
+use Rattle.device.specs.Take.{rules, takes}
 use Rattle.record_local.specs.Local.{loads, setsStatus, wishing, wishes}
 use Rattle.device.specs.declared.Device.{Device}
 use Rattle.device.specs.Sentences.{Of}
-use Rattle.device.proofs.Classes.{aad-codes}
+use Rattle.device.proofs.Classes.{aad-codes, aad-address}
 use Rattle.device.proofs.Chosen.{chosen, selected}
-use Rattle.device.proofs.Marked.{marked-below}
+use Rattle.device.proofs.Marked.{Shows, shows, marked-below}
 use Rattle.record_local.specs.Local.{Called}
 use Rattle.record.specs.Fits.{Good}
 use Rattle.keeps.specs.Keeps.{TakeKeeps, TakeBelow, LoadKeeps, StatusKeeps, WishKeeps}
@@ -154,14 +156,15 @@ module _ (d : Device) (k : Kept d) (f : ℕ) where
   nrd-kept = chosen Kept (sending d) _ d (λ e. noting-kept d k (ltb-true _ _ e)) (λ e. k)
 
   -- an address taken is 0 to 30, and so the frame plus one is a frame
-  aad-out : Of Aad f → Out f (aad d f (number Aad f))
-  unfolding aad firstOf messages firstIn
+  aad-out : Of Aad f → Out f (aad d f (decoded f .offset))
+  unfolding aad
   aad-out e =
       let w = aad-codes f e in
+      let a = aad-address f e in
       chosen (Out f) (eqb (d .configured) 0) _ _
       (λ c. chosen (Out f) (has d 32) _ _
       (λ h. record {
-        device = placed-kept d k (f - 1408) 1 (omega arith) (omega arith) (λ i. absurd (omega arith)) (λ i. h)
+        device = placed-kept d k (decoded f .offset) 1 (omega arith) (omega arith) (λ i. absurd (omega arith)) (λ i. h)
             (λ i. omega arith);
         frame = λ i. omega arith;
       })
@@ -184,33 +187,34 @@ module _ (d : Device) (k : Kept d) (f : ℕ) where
         none = λ e. t .none (omega arith);
       }
 
-  returned-out : 1 < d .talker → Out f (returned d f)
+  returned-out : (m : Message) → 1 < d .talker → Out f (returned d m)
   unfolding returned
-  returned-out h =
+  returned-out m h =
       let o = others d k in
       chosen (Out f) _ _ _
       (λ e. chosen (Out f) (eqb (d .noted) 1) _ _ (λ i. stops-out d o (still h) f eto (omega arith))
       (λ i. continues-out d o (still h) f))
       (λ e. stops-out d o (still h) f ete (omega arith))
 
-  marked-out : Out f (sends d (marked d f))
-  marked-out = record { device = k; frame = λ i. marked-below d f 4 (omega arith) }
+  module _ (m : Message) (i : Shows m) where
+    marked-out : Out f (sends d (marked d m))
+    marked-out = record { device = k; frame = λ h. marked-below d m i }
 
-  heard-out : Out f (heard d f)
-  unfolding heard
-  heard-out = chosen (Out f) (eqb (d .listener) 1) _ _
-      (λ e. record { device = k; frame = λ i. marked-below d f 4 (omega arith) }) (λ e. marked-out)
+    heard-out : Out f (heard d m)
+    unfolding heard
+    heard-out = chosen (Out f) (eqb (d .listener) 1) _ _
+        (λ e. record { device = k; frame = λ h. marked-below d m i }) (λ e. marked-out)
 
-  data-out : Out f (dataOrEnd d f)
-  unfolding dataOrEnd
-  data-out = chosen (Out f) (sending d) _ _ (λ e. returned-out (ltb-true _ _ e)) (λ e. heard-out)
+    data-out : Out f (dataOrEnd d m)
+    unfolding dataOrEnd
+    data-out = chosen (Out f) (sending d) _ _ (λ e. returned-out m (ltb-true _ _ e)) (λ e. heard-out)
 
 -- ---- whichever rule is selected
 
 take-out : (d : Device) (f : ℕ) → Kept d → Out f (takes d f)
-unfolding takes
+unfolding takes hasC1
 take-out d f k =
-    selected (Out f) (kindAt f) (rules d f) (sends d f) (passes d f k)
+    selected (Out f) (kindAt f) (rules d f (decoded f)) (sends d f) (passes d f k)
     (λ e. passes _ f (lad-kept d k _))
     (λ e. passes _ f (deaf-kept d k))
     (λ e. passes _ f (tad-kept d k _))
@@ -223,9 +227,9 @@ take-out d f k =
     (λ e. requested-out d k f 16 5 (to-accessory d k))
     (λ e. passes _ f (nrd-kept d k f))
     (λ e. aad-out d k f e)
-    (λ e. data-out d k f)
-    (λ e. data-out d k f)
-    (λ e. marked-out d k f)
+    (λ e. data-out d k f _ (shows f (ap hasC1 e)))
+    (λ e. data-out d k f _ (shows f (ap hasC1 e)))
+    (λ e. marked-out d k f _ (shows f (ap hasC1 e)))
 
 -- ---- the theorems
 

@@ -5,15 +5,18 @@ use mathlib.Core.Path.{_≡_, refl}
 use mathlib.Core.Bool.{Bool, true, false, _||_}
 use native.Mathlib.Omega.{arith}
 use lib.Dec.{eqb, ltb}
-use lib.ListN.{getD}
 use borrow.Author.Tests.{eqb-true, eqb-false, ltb-true, eq-eqb, ne-eqb}
+use Rattle.frame.specs.Messages.{messages, firstIn, firstOf, codesIn, codesOf}
+use Rattle.frame.specs.Decoding.{dab, end, hasC1}
 use Rattle.device.specs.Choose.{choose}
 use Rattle.device.specs.Device.{has, talks}
-use Rattle.device.specs.Reply.{eto, marked, stops, dataFrame, otherByte, otherLength, sendsData, sendsOther, continues}
+use Rattle.device.specs.Reply.{eto, stops, dataFrame, otherByte, otherFrame, otherLength, sendsData, sendsOther}
+use Rattle.device.specs.Reply.{continues}
+use Rattle.device.specs.Sentences.{OfBytes}
 use Rattle.device.specs.declared.Device.{Device}
 use Rattle.device.specs.Sent.{Sent}
 use Rattle.device.proofs.Chosen.{chosen}
-use Rattle.device.proofs.Marked.{marked-below}
+use Rattle.device.proofs.Marked.{reply, other-small, marked-code}
 use Rattle.keeps.proofs.Groups.{Kept, Sized, Made, Placed, Listens, Serves, Loads}
 use Rattle.keeps.proofs.Changes.{rested}
 
@@ -80,20 +83,21 @@ sends-talks d s = go (d .talker) refl
     go (suc (suc (suc (suc (suc (suc t)))))) e = absurd (omega (arith, s .high))
 
 module _ (d : Device) (o : Others d) (s : Sends d) where
-  data-below : dataFrame d < 1024
-  unfolding dataFrame
-  data-below =
-      chosen (λ x. x < 1024) (eqb (d .sent + 1) (d .loadlength)) _ _
-      (λ e. marked-below d (getD (d .load) (d .sent) 0 + 512) 2 (omega (arith, o .sized .load (d .sent))))
-      (λ e. marked-below d (getD (d .load) (d .sent) 0) 2 (omega (arith, o .sized .load (d .sent))))
+  bytes : OfBytes d
+  bytes =
+      record { status = o .sized .status; accessory = o .sized .accessory; id = o .sized .id; load = o .sized .load }
 
-  other-below : marked d (otherByte d) < 1024
-  unfolding otherByte
-  other-below =
-      marked-below d (otherByte d) 2
-      (chosen (λ x. x < 1024) (eqb (d .talker) 3) (d .status) _ (λ e. omega (arith, o .sized .status))
-      (λ e. chosen (λ x. x < 1024) (eqb (d .talker) 4) (getD (d .id) (d .replied) 0) (d .accessory)
-      (λ e. omega (arith, o .sized .id (d .replied))) (λ e. omega (arith, o .sized .accessory))))
+  data-below : dataFrame d < 1024
+  unfolding dataFrame hasC1 messages firstIn firstOf codesIn codesOf
+  data-below =
+      let b = o .sized .load (d .sent) in
+      chosen (λ x. x < 1024) (eqb (d .sent + 1) (d .loadlength)) _ _
+      (λ e. omega (arith, marked-code d _ (reply end _ refl b) .1))
+      (λ e. omega (arith, marked-code d _ (reply dab _ refl b) .1))
+
+  other-below : otherFrame d < 1024
+  unfolding hasC1 messages firstIn firstOf codesIn codesOf
+  other-below = omega (arith, marked-code d _ (reply dab (otherByte d) refl (other-small d bytes)) .1)
 
   id-long : d .talker ≡ 4 → otherLength d ≡ d .idlength
   unfolding otherLength choose

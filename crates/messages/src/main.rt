@@ -1,5 +1,6 @@
 // Runs the message table of document 001: for each message the bits as the table prints them, the codes that they stand
-// for, and what the decoder and the encoder make of these; then the kind of every frame, and the refusals.
+// for, and what the decoder and the encoder make of these (a decoding as kind.offset.C1); then the kind of every frame,
+// and the refusals.
 use print::decimal;
 use print::hex;
 use print::text;
@@ -7,7 +8,7 @@ ghost use Prim.Native.Nat.{_≤_, _<_};
 ghost use Rattle.frame.specs.Messages.{frames};
 
 fn main() {
-    text(b"message: first and last code; kinds before, at and after them; frames\n");
+    text(b"message: first and last code; decodings before, at and after them; frames\n");
     messages();
     text(b"kind of every frame, by the decoder and by the table\n");
     frames();
@@ -16,17 +17,22 @@ fn main() {
 
 fn refusals() {
     text(b"decoder\n");
+    decoded(0x543);
     decoded(0x7ff);
     decoded(0x800);
     decoded(0x10000);
     decoded(0xffffffffffffffff);
     text(b"encoder\n");
-    encoded(0, 0);
-    encoded(42, 0x1ff);
-    encoded(42, 0x200);
-    encoded(43, 0);
-    encoded(1, 0xffffffffffffffff);
-    encoded(0xffffffffffffffff, 0);
+    encoded(0, 0, 0);
+    encoded(42, 0xff, 1);
+    encoded(42, 0xff, 2);
+    encoded(42, 0x100, 0);
+    encoded(12, 0x1e, 0);
+    encoded(12, 0x1e, 1);
+    encoded(43, 0, 0);
+    encoded(1, 0xffffffffffffffff, 0);
+    encoded(1, 0, 0xffffffffffffffff);
+    encoded(0xffffffffffffffff, 0, 0);
 }
 
 // The messages in the table's order, 16 bytes each: mnemonic, control bits, data bits, with letters for the free bits.
@@ -91,47 +97,41 @@ fn message(row: &[u8]) {
     hex(first);
     text(b" ");
     hex(last);
-    kinds(first, last);
-    frames_of(first, last);
+    decodings(first, last);
+    frames_of(last);
 }
 
-// The kinds before, at and after a message's codes.
-fn kinds(first: u64, last: u64)
+// The decodings before, at and after a message's codes.
+fn decodings(first: u64, last: u64)
     requires { ⌜ last < frames ⌝ }
 {
-    text(b"; kinds");
+    text(b";");
     neighbour(first);
-    kind_at(first);
-    kind_at(last);
-    kind_at(last + 1);
+    parts_at(first);
+    parts_at(last);
+    parts_at(last + 1);
 }
 
-// The frames at a kind's first and last offset, and at one too many.
-fn frames_of(first: u64, last: u64)
-    requires { ⌜ last < frames ⌝ }
-{
-    let kind = frame::decode(first).kind() as u64;
-    let most = offset(first, last);
+// The frames at a kind's first and last offset and C1, at an offset too many and at a C1 too many.
+fn frames_of(last: u64) {
+    let answer = coding::decode(last);
+    let kind = answer.kind as u64;
+    let most = answer.offset as u64;
+    let c1 = answer.c1 as u64;
     text(b"; frames");
-    frame_at(kind, 0);
-    frame_at(kind, most);
-    frame_at(kind, most + 1);
+    frame_at(kind, 0, 0);
+    frame_at(kind, most, c1);
+    frame_at(kind, most + 1, c1);
+    frame_at(kind, 0, c1 + 1);
     text(b"\n");
 }
 
-// The offset of a kind's last code.
-fn offset(first: u64, last: u64) -> u64
-    ensures { λ r. ⌜ r ≤ last ⌝ }
-{
-    if first <= last { last - first } else { 0 }
-}
-
-// The kind before a code.
+// The decoding before a code.
 fn neighbour(first: u64) {
     if first == 0 {
         text(b" none");
     } else {
-        kind_at(first - 1);
+        parts_at(first - 1);
     }
 }
 
@@ -193,13 +193,16 @@ fn frames() {
 fn run(start: u64, at: u64) -> u64
     requires { ⌜ at < frames ⌝ }
 {
-    if frame::decode(at + 1).kind() == frame::decode(start).kind() {
+    let here = coding::decode(start);
+    let next = coding::decode(at + 1);
+    if here.kind == next.kind {
         return start;
     }
     hex(start);
     text(b" ");
     hex(at);
-    kind_at(start);
+    text(b" ");
+    decimal(here.kind as u64);
     text(b" ");
     decimal(published::kind(start) as u64);
     text(b"\n");
@@ -208,37 +211,43 @@ fn run(start: u64, at: u64) -> u64
 
 fn decoded(number: u64) {
     hex(number);
-    kind_at(number);
+    parts_at(number);
     text(b"\n");
 }
 
-fn encoded(kind: u64, offset: u64) {
+fn encoded(kind: u64, offset: u64, c1: u64) {
     decimal(kind);
     text(b" ");
     hex(offset);
-    frame_at(kind, offset);
+    text(b" ");
+    decimal(c1);
+    frame_at(kind, offset, c1);
     text(b"\n");
 }
 
-// What the decoder answers: a kind or a refusal.
-fn kind_at(number: u64) {
-    let answer = frame::decode(number);
-    if answer.refusal() == 0 {
+// What the decoder answers: a kind, an offset and a C1, or a refusal.
+fn parts_at(number: u64) {
+    let answer = coding::decode(number);
+    if answer.refusal == 0 {
         text(b" ");
-        decimal(answer.kind() as u64);
+        decimal(answer.kind as u64);
+        text(b".");
+        decimal(answer.offset as u64);
+        text(b".");
+        decimal(answer.c1 as u64);
     } else {
-        refused(answer.refusal());
+        refused(answer.refusal);
     }
 }
 
 // What the encoder answers: a frame or a refusal.
-fn frame_at(kind: u64, offset: u64) {
-    let answer = frame::encode(kind, offset);
-    if answer.refusal() == 0 {
+fn frame_at(kind: u64, offset: u64, c1: u64) {
+    let answer = coding::encode(kind, offset, c1);
+    if answer.refusal == 0 {
         text(b" ");
-        hex(answer.frame() as u64);
+        hex(answer.frame as u64);
     } else {
-        refused(answer.refusal());
+        refused(answer.refusal);
     }
 }
 

@@ -76,8 +76,8 @@ pub extern "C" fn pil_decode(frame: u64) -> DecodeAnswer
 }
 
 #[no_mangle]
-pub extern "C" fn pil_encode(kind: u64, offset: u64) -> EncodeAnswer
-    ensures { λ r. ⌜ r ≡ encodeAnswer kind offset ⌝ }
+pub extern "C" fn pil_encode(kind: u64, offset: u64, c1: u64) -> EncodeAnswer
+    ensures { λ r. ⌜ r ≡ encodeAnswer kind offset c1 ⌝ }
 {
-    coding::encode(kind, offset)
+    coding::encode(kind, offset, c1)
 }

@@ -100,8 +100,7 @@ pub fn ready(state: State, rec: &[u8], frame: u16) -> Passed
             Device::SENDING_ACCESSORY_ID,
         ),
         Kind::Nrd => sends(nrd(state), frame),
-        // AAD starts at a multiple of 32, so the low five bits are the message's number.
-        Kind::Aad => aad(state, rec, frame, (frame % 32) as u8),
+        Kind::Aad => aad(state, rec, frame, frame::offset_of(Kind::Aad, frame)),
         _ => sends(state, frame),
     }
 }

@@ -1,5 +1,7 @@
 // The replies of a talker (01, What a device does with a frame, from "Reply bytes are DAB").
 use device::Device;
+use frame::C1;
+use frame::C2;
 use record::ACCESSORY;
 use record::ID_LENGTH;
 use record::LOAD_LENGTH;
@@ -12,6 +14,9 @@ use state::sends;
 ghost use mathlib.Core.Path.{_≡_};
 ghost use Prim.Native.Nat.{_<_};
 ghost use lib.ListN.{length};
+ghost use Rattle.frame.specs.Messages.{frames};
+ghost use Rattle.frame.specs.Decoding.{frameOf};
+ghost use Rattle.frame.specs.declared.Message.{Message};
 ghost use Rattle.device.specs.Reply.{marked, stops, dataFrame, otherByte, otherLength, sendsData, sendsOther};
 ghost use Rattle.device.specs.Reply.{continues};
 ghost use Rattle.device.specs.declared.Device.{Device};
@@ -22,17 +27,14 @@ pub const ETO: u16 = 0x540;
 
 pub const ETE: u16 = 0x541;
 
-// The control bits C1 and C2.
-pub const C1: u16 = 0x100;
-
-pub const C2: u16 = 0x200;
-
-// C1 is set where service is asked for, and never cleared.
-pub fn marked(state: State, frame: u16) -> u16
-    ensures { λ r. ⌜ ((d : Device) → r ≡ marked (with d state) frame) ⌝ }
+// The frame of a message, with the message's C1 beside it, as it goes out: C1 is set where service is asked for, and
+// never cleared.
+pub fn marked(state: State, frame: u16, c1: u8) -> u16
+    requires { ⌜ (frame < frames) × (c1 < 2) ⌝ }
+    ensures { λ r. ⌜ ((d : Device) (m : Message) → frame ≡ frameOf m → c1 ≡ m .c1 → r ≡ marked (with d state) m) ⌝ }
 {
     if state.service == Device::ASKING {
-        if frame / C1 % 2 == 1 {
+        if c1 == 1 {
             return frame;
         }
         return frame + C1;
@@ -53,9 +55,9 @@ fn data_frame(state: State, rec: &[u8]) -> u16
 {
     let byte = load_at(rec, state.sent) as u16;
     if state.sent + 1 == rec[LOAD_LENGTH] {
-        return marked(state, byte + C2);
+        return marked(state, C2 + byte, 0);
     }
-    marked(state, byte)
+    marked(state, byte, 0)
 }
 
 fn other_byte(state: State, rec: &[u8]) -> u8
@@ -94,7 +96,7 @@ fn send_other(state: State, rec: &[u8]) -> Passed
     ensures { λ r. ⌜ sentFrom (now (rec .entry)) r ≡ sendsOther (inRecord (now (rec .entry)) state) ⌝ }
 {
     let byte = other_byte(state, rec) as u16;
-    let frame = marked(state, byte);
+    let frame = marked(state, byte, 0);
     sends(state.counting(frame, state.sent, state.replied + 1), frame)
 }
 

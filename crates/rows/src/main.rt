@@ -22,12 +22,16 @@ fn main() {
 }
 
 fn decoded(frame: u64) {
-    let answer = frame::decode(frame);
+    let answer = pil::pil_decode(frame);
     text(b"decode ");
     decimal(frame);
-    refusal(answer.refusal());
+    refusal(answer.refusal);
     text(b", kind ");
-    decimal(answer.kind() as u64);
+    byte(answer.kind);
+    text(b", offset ");
+    decimal(answer.offset as u64);
+    text(b", C1 ");
+    byte(answer.c1);
     text(b"\n");
 }
 

@@ -2,6 +2,7 @@
 use Prim.Native.Nat.{zero, suc}
 use mathlib.Core.Path.{refl}
 use Rattle.frame.specs.Messages.{messages, kindAt, lookup, within, firstIn, firstOf}
+use Rattle.frame.specs.Decoding.{hasC1, offsetIn, c1In}
 use Rattle.device.specs.Choose.{choose}
 use Rattle.device.specs.PowerOn.{powerOn, bytesFrom}
 use Rattle.device.specs.Commands.{lad, tad, aau}
@@ -24,7 +25,7 @@ use Rattle.demands.specs.Demands.{AllEmpty}
 use Rattle.teeth.specs.Example.{fresh, mixed, Example}
 
 empty : AllEmpty (areaLeft fresh mixed)
-unfolding messages kindAt lookup within firstIn firstOf choose powerOn bytesFrom lad tad aau marked requested polls sst
+unfolding messages kindAt lookup within firstIn firstOf hasC1 offsetIn c1In choose powerOn bytesFrom lad tad aau marked requested polls sst
     nrd aad returned heard dataOrEnd takes loads deviceOf recordOf zeros soundDevice soundRecord allowed parts join all
     framesOf linkOf soundSlot soundLink loopOf areaOf shaped sound judgeOf callOf putIn takeIn hopIn localIn itemsFit
     setUpOf canHop highest drainFrom
@@ -34,7 +35,7 @@ empty (suc (suc zero)) = refl
 empty (suc (suc (suc j))) = refl
 
 pub example : Example
-unfolding messages kindAt lookup within firstIn firstOf choose powerOn bytesFrom lad tad aau marked requested polls sst
+unfolding messages kindAt lookup within firstIn firstOf hasC1 offsetIn c1In choose powerOn bytesFrom lad tad aau marked requested polls sst
     nrd aad returned heard dataOrEnd takes loads deviceOf recordOf zeros soundDevice soundRecord allowed parts join all
     framesOf linkOf soundSlot soundLink loopOf areaOf shaped sound judgeOf callOf putIn takeIn hopIn localIn itemsFit
     setUpOf canHop highest drainFrom

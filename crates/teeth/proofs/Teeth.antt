@@ -8,6 +8,7 @@ use native.Mathlib.Omega.{arith}
 use lib.Dec.{ltb}
 use borrow.Author.Tests.{ltb-true}
 use Rattle.frame.specs.Messages.{messages, kindAt, lookup, within, firstIn, firstOf}
+use Rattle.frame.specs.Decoding.{hasC1, offsetIn, c1In}
 use Rattle.device.specs.Choose.{choose}
 use Rattle.device.specs.PowerOn.{powerOn, bytesFrom}
 use Rattle.device.specs.Ready.{aad}
@@ -107,18 +108,18 @@ answered f handed.Nothing = refl
 answered f (handed.Byte b e) = refl
 
 sent-on : ruled 0 0x580 one .frame ≡ 0x581
-unfolding messages kindAt lookup within firstIn firstOf choose powerOn bytesFrom aad takes deviceOf recordOf parts join
+unfolding messages kindAt lookup within firstIn firstOf hasC1 offsetIn c1In choose powerOn bytesFrom aad takes deviceOf recordOf parts join
     linkOf framesOf loopOf areaOf
 sent-on = refl
 
 left-on : (link (loopOf one) 1 ≡ []) × (link (loopOf (hopLeaves 0 0x580 one)) 1 ≡ 0x581 ∷ [])
-unfolding messages kindAt lookup within firstIn firstOf choose powerOn bytesFrom aad takes deviceOf recordOf parts join
+unfolding messages kindAt lookup within firstIn firstOf hasC1 offsetIn c1In choose powerOn bytesFrom aad takes deviceOf recordOf parts join
     linkOf framesOf loopOf areaOf splice
 left-on = (refl, refl)
 
 -- and the second device waits
 waits : device (loopOf (hopLeaves 0 0x580 two)) 1 .configured ≡ 0
-unfolding messages kindAt lookup within firstIn firstOf choose powerOn bytesFrom aad takes deviceOf recordOf parts join
+unfolding messages kindAt lookup within firstIn firstOf hasC1 offsetIn c1In choose powerOn bytesFrom aad takes deviceOf recordOf parts join
     linkOf framesOf loopOf areaOf splice
 waits = refl
 
@@ -127,7 +128,7 @@ unfolding areaOf
 both-there = omega arith
 
 works : takes (device (loopOf two) 1) (ruled 0 0x580 two .frame) .device .configured ≡ 1
-unfolding messages kindAt lookup within firstIn firstOf choose powerOn bytesFrom aad takes deviceOf recordOf parts join
+unfolding messages kindAt lookup within firstIn firstOf hasC1 offsetIn c1In choose powerOn bytesFrom aad takes deviceOf recordOf parts join
     linkOf framesOf loopOf areaOf splice
 works = refl
 

@@ -3,9 +3,10 @@ use mathlib.Core.Path.{refl}
 use borrow.Author.Needs.{needs}
 use Rattle.frame.specs.declared.Kind.the-variants.{Lad, Unl, Tad, Unt, Ifc, Aau}
 use Rattle.frame.specs.Messages.{messages, firstIn, firstOf, codesIn, codesOf}
+use Rattle.frame.specs.Decoding.{hasC1}
 use Rattle.device.specs.Choose.{choose}
 use Rattle.device.proofs.Arms.{arms}
-use Rattle.device.proofs.Dispatch.{listed, other, low-five}
+use Rattle.device.proofs.Dispatch.{listed, other, coded-as}
 use Rattle.commands.proofs.command.Statement.{statement}
 use Rattle.commands.proofs.command.Tie as tie
 
@@ -18,11 +19,18 @@ returns-7 c =
     (s .pre .1 .past) (c .match .keys7) tt refl
 
 pub command-spec : {M : Type 1} → statement M
-unfolding choose messages firstIn firstOf codesIn codesOf
+unfolding choose messages firstIn firstOf codesIn codesOf hasC1
 command-spec =
     tie.close
     (tie.spec
+    (λ c κs. search needs)
     (λ c. search needs)
+    (λ c κs. coded-as Lad _ (c .before .before .kind-of .ensures) (c .enum-told .given .1) refl refl)
+    (λ c κs. search needs)
+    (λ c. search needs)
+    (λ c κs. search needs)
+    (λ c. search needs)
+    (λ c κs. coded-as Tad _ (c .before .before .kind-of .ensures) (c .enum-told3 .given .1) refl refl)
     (λ c κs. search needs)
     (λ c. search needs)
     (λ c κs. search needs)
@@ -30,21 +38,15 @@ command-spec =
     (λ c κs. search needs)
     (λ c. search needs)
     (λ c κs. search needs)
-    (λ c. search needs)
-    (λ c κs. search needs)
-    (λ c. search needs)
-    (λ c κs. search needs)
-    (λ c. search needs)
-    (λ c κs. search needs)
-    (λ c. let t = c .before in let k = t .before .before .kind-of .ensures in
-    listed Lad _ _ k (t .enum-told .given .1)
-    (rw (← low-five Lad _ k (t .enum-told .given .1) refl) (search (arms, c .lad .ensures))))
+    (λ c. let o = c .before in let t = o .before in
+    listed Lad _ _ (t .before .before .kind-of .ensures) (t .enum-told .given .1)
+    (rw (← o .offset-of .ensures) (search (arms, c .lad .ensures))))
     (λ c. let t = c .before in
     listed Unl _ _ (t .before .before .kind-of .ensures) (t .enum-told2 .given .1)
     (search (arms, c .listening .ensures)))
-    (λ c. let t = c .before in let k = t .before .before .kind-of .ensures in
-    listed Tad _ _ k (t .enum-told3 .given .1)
-    (rw (← low-five Tad _ k (t .enum-told3 .given .1) refl) (search (arms, c .tad .ensures))))
+    (λ c. let o = c .before in let t = o .before in
+    listed Tad _ _ (t .before .before .kind-of .ensures) (t .enum-told3 .given .1)
+    (rw (← o .offset-of2 .ensures) (search (arms, c .tad .ensures))))
     (λ c. let t = c .before in
     listed Unt _ _ (t .before .before .kind-of .ensures) (t .enum-told4 .given .1) (search (arms, c .talking .ensures)))
     (λ c. let t = c .before in

@@ -3,9 +3,10 @@ use mathlib.Core.Path.{refl}
 use borrow.Author.Needs.{needs}
 use Rattle.frame.specs.declared.Kind.the-variants.{Sda, Sst, Sdi, Sai, Nrd, Aad}
 use Rattle.frame.specs.Messages.{messages, firstIn, firstOf, codesIn, codesOf}
+use Rattle.frame.specs.Decoding.{hasC1}
 use Rattle.device.specs.Choose.{choose}
 use Rattle.device.proofs.Arms.{arms}
-use Rattle.device.proofs.Dispatch.{listed, other, low-five}
+use Rattle.device.proofs.Dispatch.{listed, other, coded-as}
 use Rattle.record.specs.Record.{deviceOf}
 use Rattle.ready.proofs.ready.Statement.{statement}
 use Rattle.ready.proofs.ready.Tie as tie
@@ -20,7 +21,7 @@ returns-7 c =
     (s .pre .1 .past) (m .match .keys7) tt (c .sends2 .ensures (deviceOf (s .args .rec .now)))
 
 pub ready-spec : {M : Type 1} → statement M
-unfolding choose messages firstIn firstOf codesIn codesOf
+unfolding choose messages firstIn firstOf codesIn codesOf hasC1
 ready-spec =
     tie.close
     (tie.spec
@@ -37,7 +38,7 @@ ready-spec =
     (λ c κs. search needs)
     (λ c κs. search needs)
     (λ c. search needs)
-    (λ c. search needs)
+    (λ c κs. coded-as Aad _ (c .before .before .kind-of .ensures) (c .enum-told6 .given .1) refl refl)
     (λ c κs. (search needs, search needs))
     (λ c κs. search needs)
     (λ c. let t = c .before in
@@ -51,7 +52,7 @@ ready-spec =
     (λ c. let t = c .before .before in
     listed Nrd _ _ (t .before .before .kind-of .ensures) (t .enum-told5 .given .1)
     (search (arms, c .sends .ensures, c .before .nrd .ensures)))
-    (λ c. let t = c .before in let k = t .before .before .kind-of .ensures in
-    listed Aad _ _ k (t .enum-told6 .given .1)
-    (rw (← low-five Aad _ k (t .enum-told6 .given .1) refl) (c .aad .ensures)))
+    (λ c. let o = c .before in let t = o .before in
+    listed Aad _ _ (t .before .before .kind-of .ensures) (t .enum-told6 .given .1)
+    (rw (← o .offset-of .ensures) (c .aad .ensures)))
     returns-7)

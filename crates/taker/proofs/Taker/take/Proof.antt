@@ -1,15 +1,10 @@
 -- `taker::Taker::take` meets its contract: each class of frames is taken by its own rules.
 use mathlib.Core.Path.{_∙_, sym}
 use borrow.Author.Needs.{needs}
-use Rattle.device.proofs.Classes.{data-frame, idy-frame, past-frames}
+use Rattle.device.proofs.Classes.{past-frames}
 use Rattle.record.specs.Record.{deviceOf}
 use Rattle.taker.proofs.Taker.take.Statement.{statement}
 use Rattle.taker.proofs.Taker.take.Tie as tie
-
-returns : tie.Need-returns
-returns c =
-    let s = c .before .before .before .before in
-    c .data-or-end .ensures ∙ sym (data-frame _ (s .args .frame) (search needs))
 
 returns-2 : tie.Need-returns-2
 returns-2 c =
@@ -20,7 +15,6 @@ returns-4 : tie.Need-returns-4
 returns-4 c =
     let s = c .before .before .before .before .before .before .before in
     c .identify .ensures (deviceOf (s .args .rec .now))
-    ∙ sym (idy-frame _ (s .args .frame) (search needs) (search needs))
 
 returns-5 : tie.Need-returns-5
 returns-5 c =
@@ -32,7 +26,7 @@ take-spec =
     tie.close
     (tie.spec
     (λ c κs. search needs)
-    returns
+    (λ c. search needs)
     (λ c κs. search needs)
     (λ c κs. search needs)
     returns-2
