@@ -1,7 +1,7 @@
--- What the bits of a data byte or an IDY are in its decoding: the data bits its offset, C1 its C1, and C3 C2 tell the kinds
--- apart. So of a data byte C3 C2 is the end bit.
+-- What the bits of a data byte or an IDY are in its decoding: the data bits its offset, C1 its C1, and C3 C2 tell the
+-- kinds apart. So of a data byte C3 C2 is the end bit.
 use Prim.Native.Nat.{ℕ, _+_, _/_, _%_, _≤_, _<_}
-use mathlib.Core.Path.{_≡_, refl, sym, ap, _∙_}
+use mathlib.Core.Path.{_≡_, sym, ap, _∙_}
 use native.Mathlib.Omega.{arith}
 use native.Mathlib.Decide.{decLt}
 use borrow.Author.Tests.{eq-eqb, ne-eqb}

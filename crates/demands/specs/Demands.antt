@@ -1,8 +1,8 @@
 -- The three demands on the model, over the very definitions that the contracts of the exported functions cite.
 -- It leans on Calls, Conditions, Drains, Histories (the crate teeth says what it shuts out); frame's Messages,
--- Decoding, Coding, Laws; coding's Coding; device's Sent, and Take with the rules that it names; record_local's Local; record's Record,
--- Parts, Sound, Fits; area's Sizes, Parts, Link, Loop, Lookup; calls' Outcome, Calls, Drain, SetUp; order's Line, Flat,
--- History, RightRound, Through, which have names of their own.
+-- Decoding, Coding, Laws; coding's Coding; device's Sent, and Take with the rules that it names; record_local's Local;
+-- record's Record, Parts, Sound, Fits; area's Sizes, Parts, Link, Loop, Lookup; calls' Outcome, Calls, Drain, SetUp;
+-- order's Line, Flat, History, RightRound, Through, which have names of their own.
 use Prim.Native.Nat.{ℕ, suc, _+_, _*_, _<_}
 use mathlib.Core.Path.{_≡_}
 use mathlib.Core.List.{List, [], _∷_, _++_, tail}

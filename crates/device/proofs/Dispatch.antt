@@ -6,15 +6,15 @@ use mathlib.Core.List.{List, [], _∷_}
 use mathlib.Core.Bool.{Bool, true, false, cond, _&&_, _||_}
 use native.Mathlib.Omega.{arith}
 use lib.Dec.{T, eqb, ltb, leb}
-use borrow.Author.Tests.{eqb-true, eqb-false, ne-eqb, ltb-true, leb-true}
+use borrow.Author.Tests.{eqb-false, ne-eqb, ltb-true, leb-true}
 use denote.Enum.Declared.{tagOf}
 use types.Run.{OneOf}
 use Rattle.frame.specs.declared.Kind.{Kind}
-use Rattle.frame.specs.Messages.{frames, kinds, numberOf, kindAt, firstOf, codesOf}
+use Rattle.frame.specs.Messages.{kinds, numberOf, kindAt, firstOf, codesOf}
 use Rattle.frame.specs.Decoding.{hasC1, decoded, Coded}
 use Rattle.frame.proofs.Kind.{the-type}
 use Rattle.frame.proofs.Every.{tag}
-use Rattle.frame.proofs.Rows.{within-kind, no-frame}
+use Rattle.frame.proofs.Rows.{within-kind}
 use Rattle.device.specs.Choose.{choose}
 use Rattle.device.specs.Reply.{sends}
 use Rattle.device.specs.Take.{Rule, select, rules, takes}
@@ -99,8 +99,8 @@ module _ (lo hi : ℕ) where
   rest rs i (suc n) = absent i rs (rest rs (suc i) n)
 
   pub other : (k : Kind) {x : Sent} (d : Device) (f : ℕ) → numberOf k ≡ kindAt f → lo ≤ f → f < hi →
-      OneOf (rest (rules d f (decoded f)) 0 kinds) (tagOf the-type k) → T (unlisted (rest (rules d f (decoded f)) 0 kinds) (rules d f (decoded f))) →
-      x ≡ sends d f → x ≡ takes d f
+      let rs = rules d f (decoded f) in
+      OneOf (rest rs 0 kinds) (tagOf the-type k) → T (unlisted (rest rs 0 kinds) rs) → x ≡ sends d f → x ≡ takes d f
   unfolding takes
   other k d f e l h o t s =
       let ks = rest (rules d f (decoded f)) 0 kinds in
@@ -111,11 +111,3 @@ module _ (lo hi : ℕ) where
 pub coded-as : (j : Kind) {k : Kind} (f : ℕ) → numberOf k ≡ kindAt f → k ≡ j → ltb 0 (numberOf j) ≡ true →
     hasC1 (numberOf j) ≡ false → Coded (numberOf j) f
 coded-as j f e q l w = record { kind = sym (ap numberOf q) ∙ e; listed = ltb-true 0 (numberOf j) l; without = w }
-
--- a frame of a kind of the list is below 2,048
-pub below : (j : Kind) {k : Kind} (f : ℕ) → numberOf k ≡ kindAt f → k ≡ j → ltb 0 (numberOf j) ≡ true → f < frames
-below j {k} f e q t =
-    let n = numberOf j in
-    let p : 0 < n = ltb-true 0 n t in
-    let z : kindAt f ≡ n = sym e ∙ ap numberOf q in
-    let out : frames ≤ f → ⊥ = λ h. omega (arith, no-frame f h) in omega arith

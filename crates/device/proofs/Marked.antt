@@ -1,6 +1,6 @@
 -- A DAB, END or IDY as it goes out, C1 set if service is 1: it is decoded as it was made, by the laws of the codes.
 use Prim.Native.Nat.{ℕ, _≤_, _<_}
-use mathlib.Core.Path.{_≡_, refl, sym, ap, _∙_}
+use mathlib.Core.Path.{_≡_, refl, sym, ap}
 use mathlib.Core.Bool.{true}
 use native.Mathlib.Omega.{arith}
 use native.Mathlib.Decide.{decLt}
@@ -11,7 +11,7 @@ use Rattle.frame.specs.Decoding.{message, dab, end, idy, hasC1, decoded, frameO
 use Rattle.frame.specs.Laws.{CodeOf}
 use Rattle.frame.specs.declared.Message.{Message}
 use Rattle.frame.proofs.Rows.{within-kind, ranged}
-use Rattle.frame.proofs.Laws.{Placed, placed, offsets-free, c1s-free, Has, has, Free, free}
+use Rattle.frame.proofs.Laws.{Placed, placed, offsets-free, c1s-free, has, free}
 use Rattle.device.specs.Device.{sendingStatus, sendingDeviceID, asking}
 use Rattle.device.specs.Reply.{withC1, marked, otherByte}
 use Rattle.device.specs.Sentences.{HasC1, OfBytes}

@@ -116,7 +116,8 @@ module _ (f : ℕ) (i : IsData f) where
       go : Dec (f < 0x200) → IsData c1-frame
       go (yes h) = record { past = omega (arith, held dab (ranged dab f (omega arith) (omega arith)) (omega arith) .1) }
       go (no h) =
-          record { past = omega (arith, held end (ranged end f (omega arith) (omega (arith, i .past))) (omega arith) .1) }
+          let e = ranged end f (omega arith) (omega (arith, i .past)) in
+          record { past = omega (arith, held end e (omega arith) .1) }
 
 pub own-compared : OwnCompared
 unfolding c1-frame

@@ -12,6 +12,7 @@ use Rattle.device.specs.Take.{takes}
 use Rattle.device.specs.Rows.{Rows}
 
 pub rows : Rows
-unfolding messages kindAt lookup within firstIn firstOf hasC1 offsetIn c1In choose bytesFrom powerOn lad tad aau marked
-    dataFrame otherByte otherLength sendsData sendsOther continues requested polls sst nrd aad returned heard dataOrEnd takes
+unfolding messages kindAt lookup within firstIn firstOf hasC1 offsetIn c1In choose bytesFrom powerOn lad tad aau
+    marked dataFrame otherByte otherLength sendsData sendsOther continues requested polls sst nrd aad returned heard
+    dataOrEnd takes
 rows = refl

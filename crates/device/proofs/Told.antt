@@ -10,7 +10,7 @@ use lib.Dec.{eqb, ltb}
 use borrow.Author.Tests.{eqb-true, ltb-false}
 use Rattle.frame.specs.declared.Kind.the-variants.{Aad}
 use Rattle.frame.specs.Messages.{kindAt, messages, firstIn, firstOf, codesIn, codesOf}
-use Rattle.frame.specs.Decoding.{message, dab, end, hasC1, decoded}
+use Rattle.frame.specs.Decoding.{dab, end, hasC1, decoded}
 use Rattle.frame.specs.declared.Message.{Message}
 use Rattle.device.specs.Choose.{choose}
 use Rattle.device.specs.Device.{listen, status, autoAddress, unaddress, idle, addressed, sendingData}
@@ -219,7 +219,8 @@ module _ (d : Device) (f : ℕ) (q : ShowsService f → ⊥) where
 
     sst-told : Told d f (sst d f)
     unfolding sst
-    sst-told = starts (has d status) (talking (polls d) sendingStatus) (λ b. kept (polls d) sendingStatus (polls-kept d b))
+    sst-told =
+        starts (has d status) (talking (polls d) sendingStatus) (λ b. kept (polls d) sendingStatus (polls-kept d b))
 
   no-command : (k : ℕ) → outside 0x400 0x500 k ≡ true → kindAt f ≡ k → IsCommand f → ⊥
   no-command k o e c = elsewhere 0x400 0x500 f k (c .first) (c .past) o e

@@ -9,10 +9,10 @@ use native.Mathlib.Decide.{decLt}
 use lib.Dec.{eqb, ltb}
 use borrow.Author.Tests.{lt-ltb, ltb-true, eqb-true, ne-eqb}
 use Rattle.frame.specs.Messages.{frames, kinds, messages, kindAt, firstIn, codesIn, firstOf, codesOf}
-use Rattle.frame.specs.Decoding.{message, bitsOf, dab, end, idy, hasC1, offsetIn, c1In, decoded, offsetsOf}
+use Rattle.frame.specs.Decoding.{message, dab, end, idy, hasC1, offsetIn, c1In, decoded, offsetsOf}
 use Rattle.frame.specs.Decoding.{c1sOf, frameOf}
 use Rattle.frame.specs.Coding.{decodeOf, inList, encodeOf}
-use Rattle.frame.specs.Laws.{DecodeEncode, EncodeDecode, CodeOf, KindZero}
+use Rattle.frame.specs.Laws.{DecodeEncode, EncodeDecode, KindZero}
 use Rattle.frame.specs.declared.Message.{Message}
 use Rattle.frame.specs.declared.Decoded.the-variants as decoder
 use Rattle.frame.specs.declared.Encoded.{Encoded}

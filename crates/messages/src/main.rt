@@ -4,7 +4,7 @@
 use print::decimal;
 use print::hex;
 use print::text;
-ghost use Prim.Native.Nat.{_≤_, _<_};
+ghost use Prim.Native.Nat.{_<_};
 ghost use Rattle.frame.specs.Messages.{frames};
 
 fn main() {

@@ -25,20 +25,20 @@ use Rattle.demands.specs.Demands.{AllEmpty}
 use Rattle.teeth.specs.Example.{fresh, mixed, Example}
 
 empty : AllEmpty (areaLeft fresh mixed)
-unfolding messages kindAt lookup within firstIn firstOf hasC1 offsetIn c1In choose powerOn bytesFrom lad tad aau marked requested polls sst
-    nrd aad returned heard dataOrEnd takes loads deviceOf recordOf zeros soundDevice soundRecord allowed parts join all
-    framesOf linkOf soundSlot soundLink loopOf areaOf shaped sound judgeOf callOf putIn takeIn hopIn localIn itemsFit
-    setUpOf canHop highest drainFrom
+unfolding messages kindAt lookup within firstIn firstOf hasC1 offsetIn c1In choose powerOn bytesFrom lad tad aau
+    marked requested polls sst nrd aad returned heard dataOrEnd takes loads deviceOf recordOf zeros soundDevice
+    soundRecord allowed parts join all framesOf linkOf soundSlot soundLink loopOf areaOf shaped sound judgeOf callOf
+    putIn takeIn hopIn localIn itemsFit setUpOf canHop highest drainFrom
 empty zero = refl
 empty (suc zero) = refl
 empty (suc (suc zero)) = refl
 empty (suc (suc (suc j))) = refl
 
 pub example : Example
-unfolding messages kindAt lookup within firstIn firstOf hasC1 offsetIn c1In choose powerOn bytesFrom lad tad aau marked requested polls sst
-    nrd aad returned heard dataOrEnd takes loads deviceOf recordOf zeros soundDevice soundRecord allowed parts join all
-    framesOf linkOf soundSlot soundLink loopOf areaOf shaped sound judgeOf callOf putIn takeIn hopIn localIn itemsFit
-    setUpOf canHop highest drainFrom
+unfolding messages kindAt lookup within firstIn firstOf hasC1 offsetIn c1In choose powerOn bytesFrom lad tad aau
+    marked requested polls sst nrd aad returned heard dataOrEnd takes loads deviceOf recordOf zeros soundDevice
+    soundRecord allowed parts join all framesOf linkOf soundSlot soundLink loopOf areaOf shaped sound judgeOf callOf
+    putIn takeIn hopIn localIn itemsFit setUpOf canHop highest drainFrom
 example =
     record {
       set-up = refl;

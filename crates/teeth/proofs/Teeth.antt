@@ -108,19 +108,19 @@ answered f handed.Nothing = refl
 answered f (handed.Byte b e) = refl
 
 sent-on : ruled 0 0x580 one .frame ≡ 0x581
-unfolding messages kindAt lookup within firstIn firstOf hasC1 offsetIn c1In choose powerOn bytesFrom aad takes deviceOf recordOf parts join
-    linkOf framesOf loopOf areaOf
+unfolding messages kindAt lookup within firstIn firstOf hasC1 offsetIn c1In choose powerOn bytesFrom aad takes
+    deviceOf recordOf parts join linkOf framesOf loopOf areaOf
 sent-on = refl
 
 left-on : (link (loopOf one) 1 ≡ []) × (link (loopOf (hopLeaves 0 0x580 one)) 1 ≡ 0x581 ∷ [])
-unfolding messages kindAt lookup within firstIn firstOf hasC1 offsetIn c1In choose powerOn bytesFrom aad takes deviceOf recordOf parts join
-    linkOf framesOf loopOf areaOf splice
+unfolding messages kindAt lookup within firstIn firstOf hasC1 offsetIn c1In choose powerOn bytesFrom aad takes
+    deviceOf recordOf parts join linkOf framesOf loopOf areaOf splice
 left-on = (refl, refl)
 
 -- and the second device waits
 waits : device (loopOf (hopLeaves 0 0x580 two)) 1 .configured ≡ 0
-unfolding messages kindAt lookup within firstIn firstOf hasC1 offsetIn c1In choose powerOn bytesFrom aad takes deviceOf recordOf parts join
-    linkOf framesOf loopOf areaOf splice
+unfolding messages kindAt lookup within firstIn firstOf hasC1 offsetIn c1In choose powerOn bytesFrom aad takes
+    deviceOf recordOf parts join linkOf framesOf loopOf areaOf splice
 waits = refl
 
 both-there : 1 < countIn two
@@ -128,8 +128,8 @@ unfolding areaOf
 both-there = omega arith
 
 works : takes (device (loopOf two) 1) (ruled 0 0x580 two .frame) .device .configured ≡ 1
-unfolding messages kindAt lookup within firstIn firstOf hasC1 offsetIn c1In choose powerOn bytesFrom aad takes deviceOf recordOf parts join
-    linkOf framesOf loopOf areaOf splice
+unfolding messages kindAt lookup within firstIn firstOf hasC1 offsetIn c1In choose powerOn bytesFrom aad takes
+    deviceOf recordOf parts join linkOf framesOf loopOf areaOf splice
 works = refl
 
 -- AAD can hop, and where nothing is under way nothing can

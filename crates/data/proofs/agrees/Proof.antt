@@ -1,5 +1,5 @@
--- `data::agrees` meets its contract: C3 C2 tell the kinds of data bytes apart, and where they agree the data bits are the
--- offsets. At each return, what its tests found decides the definition's.
+-- `data::agrees` meets its contract: C3 C2 tell the kinds of data bytes apart, and where they agree the data bits are
+-- the offsets. At each return, what its tests found decides the definition's.
 use Prim.Native.Nat.{ℕ, _/_, _%_, _<_}
 use mathlib.Core.Path.{_≡_, ap}
 use mathlib.Core.Bool.{and-false}

@@ -1,5 +1,6 @@
--- `data::heard` meets its contract: the bits are those of the decoding, and each return follows from the test on its way.
-use Prim.Native.Nat.{ℕ, _/_, _%_}
+-- `data::heard` meets its contract: the bits are those of the decoding, and each return follows from the test on its
+-- way.
+use Prim.Native.Nat.{ℕ}
 use mathlib.Core.Path.{_≡_, sym, ap, _∙_}
 use native.Mathlib.Omega.{arith}
 use borrow.Author.Needs.{needs}

@@ -6,7 +6,7 @@ use native.Mathlib.Omega.{arith}
 use borrow.Author.Needs.{needs}
 use borrow.Author.Tests.{lt-ltb, le-ltb}
 use Rattle.frame.specs.Messages.{frames, kindAt}
-use Rattle.frame.specs.Decoding.{message, hasC1, decoded}
+use Rattle.frame.specs.Decoding.{hasC1, decoded}
 use Rattle.frame.specs.Coding.{decodeOf}
 use Rattle.frame.specs.declared.Message.{Message}
 use Rattle.frame.specs.declared.Decoded.the-variants as decoder
@@ -50,7 +50,8 @@ returns-4 c =
     let k = n .number .result in
     let f = n .before .before .before .args .frame in
     inside f _ (omega (arith, n .before .before .if1 .left))
-    (sym (same k _ 0 f (sym (known n)) (rw (known n) (sym (c .offset-of .ensures))) (c1-coded k (without (c .before)) f)))
+    (sym (same k _ 0 f (sym (known n)) (rw (known n) (sym (c .offset-of .ensures)))
+    (c1-coded k (without (c .before)) f)))
 
 pub decode-spec : {M : Type 1} → statement M
 decode-spec =

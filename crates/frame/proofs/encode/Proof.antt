@@ -1,12 +1,12 @@
--- `frame::encode` meets its contract: each test is one of the definition's, kinds past the list have no offsets, and what
--- the list has makes a frame, so that the sum fits.
+-- `frame::encode` meets its contract: each test is one of the definition's, kinds past the list have no offsets, and
+-- what the list has makes a frame, so that the sum fits.
 use Prim.Native.Nat.{ℕ, _+_, _*_, _≤_, _<_}
-use mathlib.Core.Path.{_≡_, refl, sym, _∙_}
+use mathlib.Core.Path.{_≡_}
 use mathlib.Core.Bool.{and-false}
 use native.Mathlib.Omega.{arith}
 use borrow.Author.Needs.{needs}
 use borrow.Author.Tests.{lt-ltb, le-ltb}
-use Rattle.frame.specs.Messages.{kinds, firstOf, codesOf}
+use Rattle.frame.specs.Messages.{firstOf}
 use Rattle.frame.specs.Decoding.{message, offsetsOf, c1sOf}
 use Rattle.frame.specs.Coding.{encodeOf}
 use Rattle.frame.specs.declared.Encoded.the-variants as encoder

@@ -1,10 +1,10 @@
 -- `frame::offset_of` meets its contract: a frame of a kind without C1 is not below the kind's first code, nor more than
 -- 255 above it.
 use Prim.Native.Nat.{ℕ, _-_, _≤_, _<_}
-use mathlib.Core.Path.{_≡_, sym, _∙_}
+use mathlib.Core.Path.{_≡_, sym}
 use native.Mathlib.Omega.{arith}
 use borrow.Author.Needs.{needs}
-use Rattle.frame.specs.Messages.{kinds, kindAt, numberOf, firstOf, codesOf}
+use Rattle.frame.specs.Messages.{kinds, numberOf, firstOf}
 use Rattle.frame.specs.declared.Kind.{Kind}
 use Rattle.frame.specs.Decoding.{decoded, Coded}
 use Rattle.frame.proofs.Rows.{within-kind, coded}

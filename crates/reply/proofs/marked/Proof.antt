@@ -1,5 +1,5 @@
 -- `reply::marked` meets its contract: at each return, what its tests found is the C1 that the definition sets.
-use Prim.Native.Nat.{ℕ, _+_}
+use Prim.Native.Nat.{ℕ}
 use mathlib.Core.Path.{_≡_}
 use native.Mathlib.Omega.{arith}
 use borrow.Author.Needs.{needs}
