@@ -216,16 +216,16 @@ static void count_hop(unsigned device)
         returned[other & PIL_DATA_BITS ? OTHER_DATA : other / PIL_C1]++;
 }
 
-/* The cause of a refusal shows when the others are taken away: C1 made 0, then the offset. */
+/* The cause of a refusal shows when the others are taken away: C1 made 0, or the offset. */
 static enum encoding encoding(const struct call *c, const struct answer *a)
 {
     if (a->refusal == PIL_ACCEPTED)
         return c->third ? WITH_C1_1 : WITH_C1_0;
     if (model_encode(c->number, c->second, 0).refusal == PIL_ACCEPTED)
         return c->third > 1 ? C1_OVER_1 : C1_WITHOUT_ONE;
-    if (c->third != 0)
-        return SEVERAL_CAUSES;
-    return model_encode(c->number, 0, 0).refusal == PIL_ACCEPTED ? BAD_OFFSET : BAD_KIND;
+    if (model_encode(c->number, 0, c->third).refusal == PIL_ACCEPTED)
+        return BAD_OFFSET;
+    return c->third == 0 ? BAD_KIND : SEVERAL_CAUSES;
 }
 
 static void count_answer(const struct call *c, const struct answer *a)

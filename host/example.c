@@ -80,7 +80,9 @@ static void give_addresses(unsigned first)
     printf("AAD %u: addresses", first);
     for (unsigned i = 0; i < METERS; i++)
         printf(" %u", loop[PIL_RECORD_AT(i) + PIL_RECORD_ADDRESS]);
-    printf(", next free %u, most talkers at one address %u\n", pil_decode(out).offset, most_talkers());
+    if (pil_decode(out).kind == PIL_KIND_AAD) /* and not IAA, which comes out after address 30 */
+        printf(", next free %u", pil_decode(out).offset);
+    printf(", most talkers at one address %u\n", most_talkers());
 }
 
 static int is_data(unsigned frame)

@@ -10,7 +10,7 @@ ghost use lib.ListN.{length};
 ghost use Rattle.device.specs.Commands.{lad, tad, aau};
 ghost use Rattle.device.specs.Reply.{sends};
 ghost use Rattle.device.specs.Take.{takes};
-ghost use Rattle.device.specs.Classes.{IsCommand};
+ghost use Rattle.frame.specs.Classes.{IsCommand};
 ghost use Rattle.record.specs.Record.{recordSize};
 ghost use Rattle.state.specs.State.{inRecord};
 

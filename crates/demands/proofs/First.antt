@@ -6,7 +6,7 @@ use mathlib.Core.List.{List}
 use native.Mathlib.Omega.{arith}
 use lib.ListN.{length}
 use lib.Dec.{eqb, ltb, leb}
-use borrow.Author.Tests.{eqb-true, eqb-false, ltb-true, ltb-false, lt-ltb, le-ltb, leb-true, le-leb, lt-leb, eq-eqb}
+use borrow.Author.Tests.{eqb-true, eqb-false, lt-ltb, le-ltb, leb-true, le-leb, eq-eqb}
 use Rattle.frame.specs.Messages.{frames}
 use Rattle.frame.specs.Decoding.{message, decoded as decoding, hasC1, offsetsOf, c1sOf, frameOf}
 use Rattle.frame.specs.Coding.{decodeOf, inList, encodeOf}
@@ -28,7 +28,7 @@ use Rattle.demands.specs.Calls.{pil, refusalIn, bare, acts}
 use Rattle.demands.specs.Conditions.{devicesAt, badC1, BadFrame, lowest}
 use Rattle.demands.specs.Demands.{Demand1}
 use Rattle.demands.proofs.Lengths.{found-at, at-is, shape-is, for-is}
-use Rattle.demands.proofs.Refusals.{Met, call-met, turned-lt}
+use Rattle.demands.proofs.Refusals.{Met, call-met, leb-turned, turned-lt}
 use Rattle.demands.proofs.Tests.{size-is, put-told, take-told, hop-told, local-told, load-refusal}
 use Rattle.demands.proofs.Tests.{status-refusal, wish-refusal, drain-told}
 
@@ -188,13 +188,6 @@ decode-held f a = rw (turned-lt f frames 4 0) (go (ltb f frames))
     go true = record { refused = refl; unchanged = λ z. absurd (z refl) }
     go false = record { refused = refl; unchanged = λ z. (refl, refl) }
 
-leb-turned : (m o : ℕ) → leb m o ≡ not (ltb o m)
-leb-turned m o = go (ltb o m) refl
-  where
-    go : (t : Bool) → ltb o m ≡ t → leb m o ≡ not t
-    go true e = lt-leb m o (ltb-true o m e)
-    go false e = le-leb m o (ltb-false o m e)
-
 -- a C1 outside the table is none of the values that the kind's C1 has
 c1-turned : (k c : ℕ) → badC1 k c ≡ not (ltb c (c1sOf k))
 unfolding c1sOf
@@ -217,9 +210,9 @@ either-turned true t = refl
 either-turned false t = refl
 
 -- the encoder's row of the table is that they are not in the list
-outside : (k o c : ℕ) → BadFrame (encode k o c) ≡ not (inList (message k o c))
+pub outside : (k o c : ℕ) → BadFrame (encode k o c) ≡ not (inList (message k o c))
 outside k o c =
-    rw (leb-turned (offsetsOf k) o, c1-turned k c) (either-turned (ltb o (offsetsOf k)) (ltb c (c1sOf k)))
+    rw (leb-turned o (offsetsOf k), c1-turned k c) (either-turned (ltb o (offsetsOf k)) (ltb c (c1sOf k)))
 
 encode-held : (k o c : ℕ) (a : List ℕ) → Held (encode k o c) a (pil (encode k o c) a) (lowest (encode k o c) a)
 unfolding encodeOf

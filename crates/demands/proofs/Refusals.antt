@@ -46,12 +46,19 @@ module _ {A : Type 0} (get : A → ℕ) (deny : ℕ → A) (same : (k : ℕ) →
 
 -- ---- tests, turned round
 
-pub turned-lt : (m n x y : ℕ) → cond (leb n m) x y ≡ cond (ltb m n) y x
-turned-lt m n x y = go (ltb m n) refl
+pub leb-turned : (m n : ℕ) → leb n m ≡ not (ltb m n)
+leb-turned m n = go (ltb m n) refl
   where
-    go : (t : Bool) → ltb m n ≡ t → cond (leb n m) x y ≡ cond t y x
-    go true e = rw (lt-leb n m (ltb-true m n e))
-    go false e = rw (le-leb n m (ltb-false m n e))
+    go : (t : Bool) → ltb m n ≡ t → leb n m ≡ not t
+    go true e = lt-leb n m (ltb-true m n e)
+    go false e = le-leb n m (ltb-false m n e)
+
+pub turned-lt : (m n x y : ℕ) → cond (leb n m) x y ≡ cond (ltb m n) y x
+turned-lt m n x y = rw (leb-turned m n) (go (ltb m n))
+  where
+    go : (t : Bool) → cond (not t) x y ≡ cond t y x
+    go true = refl
+    go false = refl
 
 pub told-cond : {A : Type 0} {get : A → ℕ} (b : Bool) (o p : Outcome A) (j k : ℕ) → Told A get o j → Told A get p k →
     Told A get (cond b o p) (cond b j k)

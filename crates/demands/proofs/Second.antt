@@ -1,7 +1,8 @@
 -- Demand 2: a hop leaves the area of the loop that it leaves, which differs from the old one in one record and two
 -- links; and each other call leaves what its definition says.
 use Prim.Native.Nat.{ℕ, suc, _+_, _<_}
-use mathlib.Core.Path.{_≡_, sym, ap, _∙_}
+use mathlib.Core.Bool.{Bool, true, false, not, cond}
+use mathlib.Core.Path.{_≡_, refl, sym, ap, _∙_}
 use mathlib.Core.List.{List, [], _∷_, _++_, tail}
 use native.Mathlib.Omega.{arith}
 use lib.ListN.{length, length-set}
@@ -9,10 +10,10 @@ use lib.Seq.{getD-set-other}
 use borrow.Author.Tests.{lt-ltb}
 use Rattle.frame.proofs.Rows.{in-order}
 use Rattle.frame.specs.Messages.{frames}
-use Rattle.frame.specs.Decoding.{message, decoded as decoding, offsetsOf, c1sOf, frameOf}
+use Rattle.frame.specs.Decoding.{message, decoded as decoding, frameOf}
 use Rattle.frame.specs.declared.Decoded.the-variants as decoder
 use Rattle.frame.specs.declared.Encoded.the-variants as encoder
-use Rattle.frame.specs.Coding.{decodeOf, encodeOf}
+use Rattle.frame.specs.Coding.{decodeOf, inList, encodeOf}
 use Rattle.frame.proofs.Laws.{decode-encode, encode-decode, kind-zero}
 use Rattle.device.specs.Take.{takes}
 use Rattle.device.specs.declared.Device.{Device}
@@ -30,11 +31,12 @@ use Rattle.coding.specs.Coding.{decodedAs, decodeAnswer, encodedAs, encodeAnswe
 use Rattle.coding.specs.declared.DecodeAnswer.{DecodeAnswer}
 use Rattle.coding.specs.declared.EncodeAnswer.{EncodeAnswer}
 use Rattle.calls.specs.SetUp.{poweredOn}
-use Rattle.demands.specs.Calls.{Byte, numbers, hop, setUp, Answer, plain, hopped, decoded, encoded, acts, pil}
+use Rattle.demands.specs.Calls.{Byte, numbers, hop, setUp, encode, Answer, plain, hopped, decoded, encoded, acts}
+use Rattle.demands.specs.Calls.{pil}
 use Rattle.demands.specs.Conditions.{devicesAt, lowest}
 use Rattle.demands.specs.Demands.{CanHop, ruled, recordTaken, linkLess, hopLeaves, Demand2}
 use Rattle.demands.proofs.Tests.{size-is}
-use Rattle.demands.proofs.First.{demand-1, sets-up}
+use Rattle.demands.proofs.First.{outside, demand-1, sets-up}
 use Rattle.demands.proofs.ByHops.{drain-hops}
 use Rattle.demands.proofs.Spliced.{spliced, device-area, put-leaves, take-leaves, local-call-leaves}
 
@@ -124,10 +126,16 @@ decode-answers : (f : ℕ) → f < frames → decodeAnswer f ≡ decodedAs (deco
 unfolding decodeOf
 decode-answers f h = rw (lt-ltb f frames h)
 
-encode-answers : (k o c : ℕ) → o < offsetsOf k → c < c1sOf k →
+encode-answers : (k o c : ℕ) (a : List ℕ) → lowest (encode k o c) a ≡ 0 →
     encodeAnswer k o c ≡ encodedAs (encoder.Frame (frameOf (message k o c)))
 unfolding encodeOf
-encode-answers k o c i j = rw (lt-ltb o (offsetsOf k) i, lt-ltb c (c1sOf k) j)
+encode-answers k o c a z = go (inList (message k o c)) (rw (outside k o c) at z)
+  where
+    go : (t : Bool) → _≡_ {A = ℕ} (cond (not t) 4 0) 0 →
+        encodedAs (cond t (encoder.Frame (frameOf (message k o c))) encoder.BadFrame) ≡
+        encodedAs (encoder.Frame (frameOf (message k o c)))
+    go true z = refl
+    go false z = absurd (omega arith)
 
 pub demand-2 : Demand2
 demand-2 =
@@ -142,7 +150,7 @@ demand-2 =
             local-calls = λ c i a j h z. local-call-leaves a j c i h z;
             sets-up = set-up-leaves;
             decodes = λ f a h. ap (λ (r : DecodeAnswer). after (decoded r) a) (decode-answers f h);
-            encodes = λ k o c a i j. ap (λ (r : EncodeAnswer). after (encoded r) a) (encode-answers k o c i j);
+            encodes = λ k o c a z. ap (λ (r : EncodeAnswer). after (encoded r) a) (encode-answers k o c a z);
           };
       messages-in-order = in-order;
       decode-encode = decode-encode;

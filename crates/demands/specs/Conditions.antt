@@ -1,4 +1,5 @@
--- The nine conditions of 01's refusal table, each a test of a call and an area, written from the table row by row.
+-- The nine conditions of 01's refusal table, each a test of a call and an area, written from the table row by row, with
+-- what 02, g, adds to the fourth.
 use Prim.Native.Nat.{ℕ, zero, suc, _*_}
 use mathlib.Core.List.{List, [], _∷_}
 use mathlib.Core.Bool.{Bool, false, not, cond, _&&_, _||_}
@@ -48,7 +49,7 @@ NoDevice (status i s) a = leb (countIn a) i
 NoDevice (wish i w) a = leb (countIn a) i
 NoDevice (drain b) a = false
 
--- a C1 that is not 0 or 1, or 1 on a kind without one (02, g)
+-- a C1 that is not 0 or 1, or 1 on a kind without one
 abbrev pub badC1 : ℕ → ℕ → Bool
 badC1 k c = ltb 1 c || (eqb c 1 && not (hasC1 k))
 

@@ -8,7 +8,7 @@ use mathlib.Core.Path.{_≡_}
 use mathlib.Core.List.{List, [], _∷_, _++_, tail}
 use lib.ListN.{length}
 use Rattle.frame.specs.Messages.{frames}
-use Rattle.frame.specs.Decoding.{message, decoded as decoding, offsetsOf, c1sOf, frameOf}
+use Rattle.frame.specs.Decoding.{message, decoded as decoding, frameOf}
 use Rattle.frame.specs.Laws.{TableInOrder, DecodeEncode, EncodeDecode, KindZero}
 use Rattle.device.specs.Take.{takes}
 use Rattle.device.specs.Sent.{Sent}
@@ -98,11 +98,11 @@ pub record Obeys (model : Call → List ℕ → After Answer) : Type 0 where
   -- a set-up that is not refused leaves power-on devices and empty links;
   pub sets-up : (items : List Byte) (a : List ℕ) → lowest (setUp items) a ≡ 0 →
       model (setUp items) a ≡ after (plain 0) (areaOf (poweredOn (devicesAt (length a)) (numbers items)))
-  -- the decoder answers a frame's kind, offset and C1, and the encoder the frame of those that are in the list.
+  -- the decoder answers a frame's kind, offset and C1, and the encoder, where it is not refused, the frame of the three.
   pub decodes : (f : ℕ) (a : List ℕ) → f < frames →
       let m = decoding f in
       model (decode f) a ≡ after (decoded (record { offset = m .offset; refusal = 0; kind = m .kind; c1 = m .c1 })) a
-  pub encodes : (k o c : ℕ) (a : List ℕ) → o < offsetsOf k → c < c1sOf k →
+  pub encodes : (k o c : ℕ) (a : List ℕ) → lowest (encode k o c) a ≡ 0 →
       model (encode k o c) a ≡ after (encoded (record { frame = frameOf (message k o c); refusal = 0 })) a
 
 -- That the published table has the decoding's kind at every frame is the contract of `published::kind`.

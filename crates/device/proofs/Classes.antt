@@ -2,12 +2,13 @@
 -- 2,047; and the codes and addresses of AAD.
 use Prim.Native.Nat.{ℕ, _≤_, _<_}
 use mathlib.Core.Path.{_≡_}
+use mathlib.Core.Logic.{⊎-elim}
 use native.Mathlib.Omega.{arith}
-use native.Mathlib.Decide.{decLt}
 use Rattle.frame.specs.declared.Kind.the-variants.{Aad}
 use Rattle.frame.specs.Messages.{frames, messages, firstIn, firstOf, codesIn, codesOf}
 use Rattle.frame.specs.Decoding.{hasC1, offsetIn, decoded}
-use Rattle.frame.proofs.Rows.{within-kind, ranged, no-frame}
+use Rattle.frame.proofs.Rows.{within-kind, no-frame}
+use Rattle.frame.proofs.Laws.{data-kind, idy-kind}
 use Rattle.device.specs.Choose.{choose}
 use Rattle.device.specs.Reply.{sends}
 use Rattle.device.specs.Data.{dataOrEnd, idy}
@@ -17,16 +18,12 @@ use Rattle.device.specs.declared.Device.{Device}
 
 module _ (d : Device) (f : ℕ) where
   pub data-frame : f < 0x400 → takes d f ≡ dataOrEnd d (decoded f)
-  unfolding takes choose messages firstIn firstOf codesIn codesOf
-  data-frame h = go (decLt f 0x200)
-    where
-      go : Dec (f < 0x200) → takes d f ≡ dataOrEnd d (decoded f)
-      go (yes k) = rw (← ranged 1 f (omega arith) (omega arith))
-      go (no k) = rw (← ranged 2 f (omega arith) (omega arith))
+  unfolding takes choose
+  data-frame h = ⊎-elim (λ e. rw e) (λ e. rw e) (data-kind f h)
 
   pub idy-frame : 0x600 ≤ f → f < frames → takes d f ≡ idy d (decoded f)
-  unfolding takes choose messages firstIn firstOf codesIn codesOf
-  idy-frame l h = rw (← ranged 42 f (omega arith) (omega arith))
+  unfolding takes choose
+  idy-frame l h = rw (idy-kind f l h)
 
   pub past-frames : frames ≤ f → takes d f ≡ sends d f
   unfolding takes choose

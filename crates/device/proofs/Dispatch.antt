@@ -14,6 +14,7 @@ use Rattle.frame.specs.Messages.{kinds, numberOf, kindAt, firstOf, codesOf}
 use Rattle.frame.specs.Decoding.{hasC1, decoded, Coded}
 use Rattle.frame.proofs.Kind.{the-type}
 use Rattle.frame.proofs.Every.{tag}
+use Rattle.frame.proofs.Laws.{both-true}
 use Rattle.frame.proofs.Rows.{within-kind}
 use Rattle.device.specs.Choose.{choose}
 use Rattle.device.specs.Reply.{sends}
@@ -26,10 +27,6 @@ pub listed : (j : Kind) {k : Kind} {x : Sent} (d : Device) (f : ℕ) → numberO
 unfolding takes
 listed j d f e q h =
     h ∙ ap (λ (n : ℕ). select n (rules d f (decoded f)) (sends d f)) (sym (ap numberOf q) ∙ e)
-
-both-true : (a b : Bool) → (a && b) ≡ true → (a ≡ true) × (b ≡ true)
-both-true true b h = (refl, h)
-both-true false b h = let z : false ≡ true = h in (z, cc)
 
 -- ---- a kind without a rule, among the frames of a class
 

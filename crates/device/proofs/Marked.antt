@@ -1,20 +1,19 @@
 -- A DAB, END or IDY as it goes out, C1 set if service is 1: it is decoded as it was made, by the laws of the codes.
-use Prim.Native.Nat.{ℕ, _≤_, _<_}
+use Prim.Native.Nat.{ℕ, _*_, _≤_, _<_}
 use mathlib.Core.Path.{_≡_, refl, sym, ap}
 use mathlib.Core.Bool.{true}
 use native.Mathlib.Omega.{arith}
-use native.Mathlib.Decide.{decLt}
 use lib.Dec.{eqb}
 use borrow.Author.Tests.{eqb-false}
-use Rattle.frame.specs.Messages.{frames, kindAt, messages, firstIn, firstOf, codesIn, codesOf}
-use Rattle.frame.specs.Decoding.{message, dab, end, idy, hasC1, decoded, frameOf}
+use Rattle.frame.specs.Messages.{frames, kindAt}
+use Rattle.frame.specs.Decoding.{message, hasC1, decoded, frameOf}
 use Rattle.frame.specs.Laws.{CodeOf}
 use Rattle.frame.specs.declared.Message.{Message}
-use Rattle.frame.proofs.Rows.{within-kind, ranged}
-use Rattle.frame.proofs.Laws.{Placed, placed, offsets-free, c1s-free, has, free}
+use Rattle.frame.proofs.Rows.{within-kind}
+use Rattle.frame.proofs.Laws.{data-free, idy-free, Placed, placed, offsets-free, c1s-free, has, free}
 use Rattle.device.specs.Device.{sendingStatus, sendingDeviceID, asking}
 use Rattle.device.specs.Reply.{withC1, marked, otherByte}
-use Rattle.device.specs.Sentences.{HasC1, OfBytes}
+use Rattle.device.specs.Sentences.{ShowsC1, OfBytes}
 use Rattle.device.specs.declared.Device.{Device}
 use Rattle.device.proofs.Chosen.{chosen}
 
@@ -35,16 +34,21 @@ shows f t =
     }
 
 pub data-shows : (f : ℕ) → f < 0x400 → Shows (decoded f)
-unfolding messages firstIn firstOf codesIn codesOf hasC1
-data-shows f h = go (decLt f 0x200)
-  where
-    go : Dec (f < 0x200) → Shows (decoded f)
-    go (yes i) = shows f (ap hasC1 (sym (ranged dab f (omega arith) (omega arith))))
-    go (no i) = shows f (ap hasC1 (sym (ranged end f (omega arith) (omega arith))))
+data-shows f h = shows f (data-free f h)
 
 pub idy-shows : (f : ℕ) → 0x600 ≤ f → f < frames → Shows (decoded f)
-unfolding messages firstIn firstOf codesIn codesOf hasC1
-idy-shows f l h = shows f (ap hasC1 (sym (ranged idy f (omega arith) (omega arith))))
+idy-shows f l h = shows f (idy-free f l h)
+
+-- what the code asks of a frame that it marks: that it is its message's, and that its C1 is in it
+pub record Asked (f : ℕ) : Type 0 where
+  pub frame : f ≡ frameOf (decoded f)
+  pub c1 : decoded f .c1 < 2
+  pub within : 256 * decoded f .c1 ≤ f
+
+pub asked : (f : ℕ) → hasC1 (kindAt f) ≡ true → Asked f
+asked f t =
+    let e = has f (free (kindAt f) t .listed) .frame in
+    record { frame = sym e; c1 = shows f t .c1; within = omega arith }
 
 -- a reply's byte makes one
 pub reply : (k o : ℕ) → hasC1 k ≡ true → o < 256 → Shows (message k o 0)
@@ -90,10 +94,10 @@ module _ (d : Device) (m : Message) where
     marked-below = either (λ x. x < frames) (made m s .below) (made (withC1 m) (set s) .below)
 
     -- C1 is set
-    pub marked-asks : d .service ≡ asking → HasC1 (marked d m)
+    pub marked-asks : d .service ≡ asking → ShowsC1 (marked d m)
     unfolding marked
     marked-asks a =
-        chosen HasC1 (eqb (d .service) asking) (frameOf (withC1 m)) (frameOf m)
+        chosen ShowsC1 (eqb (d .service) asking) (frameOf (withC1 m)) (frameOf m)
         (λ e. ap (λ (n : Message). n .c1) (made (withC1 m) (set s) .again)) (λ e. absurd (eqb-false _ _ e a))
 
   -- C1 is not cleared

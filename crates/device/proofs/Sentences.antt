@@ -3,17 +3,17 @@
 use Prim.Native.Nat.{ℕ, _-_, _≤_, _<_}
 use mathlib.Core.Path.{_≡_, refl, sym, ap, _∙_}
 use mathlib.Core.Bool.{Bool, true, false, and-false}
-use mathlib.Core.Logic.{_⊎_, inl, inr}
+use mathlib.Core.Logic.{_⊎_, inl, inr, ⊎-elim}
 use native.Mathlib.Omega.{arith}
-use native.Mathlib.Decide.{decLt}
 use lib.Dec.{eqb}
 use borrow.Author.Tests.{ltb-true, lt-ltb, eq-eqb, ne-eqb}
 use Rattle.frame.specs.Messages.{kindAt, messages, firstIn, firstOf, codesIn, codesOf}
-use Rattle.frame.specs.Decoding.{dab, end, idy, hasC1, offsetIn, decoded, frameOf}
+use Rattle.frame.specs.Decoding.{idy, hasC1, offsetIn, decoded, frameOf}
+use Rattle.frame.specs.Classes.{IsData}
 use Rattle.frame.specs.Laws.{CodeOf}
 use Rattle.frame.specs.declared.Message.{Message}
-use Rattle.frame.proofs.Rows.{within-kind, ranged}
-use Rattle.frame.proofs.Laws.{free, has}
+use Rattle.frame.proofs.Rows.{within-kind}
+use Rattle.frame.proofs.Laws.{free, has, data-kind, data-again, idy-kind}
 use Rattle.device.specs.Choose.{choose}
 use Rattle.device.specs.Device.{idle, addressed, sending}
 use Rattle.device.specs.Change.{talking}
@@ -22,12 +22,11 @@ use Rattle.device.specs.Reply.{eto, ete, withC1, marked, stops, continue
 use Rattle.device.specs.Ready.{aad}
 use Rattle.device.specs.Data.{agrees, returned, heard, dataOrEnd}
 use Rattle.device.specs.Take.{takes}
-use Rattle.device.specs.Sentences.{HasC1, Sending, CommandsGoOn, NoLadIs31, NoTadIs31, ConfiguredPassesAad}
+use Rattle.device.specs.Sentences.{ShowsC1, Sending, CommandsGoOn, NoLadIs31, NoTadIs31, ConfiguredPassesAad}
 use Rattle.device.specs.Sentences.{OwnNotHanded, OwnNotPassed, OwnCompared, IdyGoesOn, ServiceShown, C1Kept}
 use Rattle.device.specs.Sentences.{LeavingZeroes}
 use Rattle.device.specs.declared.Device.{Device}
 use Rattle.device.specs.Sent.{Sent}
-use Rattle.device.specs.Classes.{IsData}
 use Rattle.device.proofs.Classes.{data-frame, idy-frame}
 use Rattle.device.proofs.Chosen.{chosen}
 use Rattle.device.proofs.Marked.{Shows, data-shows, idy-shows, set, made, marked-code, marked-bits, marked-same}
@@ -107,17 +106,9 @@ module _ (f : ℕ) (i : IsData f) where
   c1-decoded = made (withC1 (decoded f)) (set (data-shows f (i .past))) .again
 
   c1-data : IsData c1-frame
-  unfolding messages firstIn firstOf codesIn codesOf
-  c1-data = go (decLt f 0x200)
-    where
-      held : (k : ℕ) → k ≡ kindAt f → 0 < k → CodeOf k c1-frame
-      held k e p = within-kind c1-frame k (ap (λ (n : Message). n .kind) c1-decoded ∙ sym e) p
-
-      go : Dec (f < 0x200) → IsData c1-frame
-      go (yes h) = record { past = omega (arith, held dab (ranged dab f (omega arith) (omega arith)) (omega arith) .1) }
-      go (no h) =
-          let e = ranged end f (omega arith) (omega (arith, i .past)) in
-          record { past = omega (arith, held end e (omega arith) .1) }
+  c1-data =
+      let e : kindAt c1-frame ≡ kindAt f = ap (λ (n : Message). n .kind) c1-decoded in
+      record { past = data-again c1-frame (⊎-elim (λ k. inl (e ∙ k)) (λ k. inr (e ∙ k)) (data-kind f (i .past))) }
 
 pub own-compared : OwnCompared
 unfolding c1-frame
@@ -149,8 +140,7 @@ idy-goes-on =
       not-handed = λ d f i. rw (idy-frame d f (i .first) (i .past));
       still-idy =
           λ d f i. let w = marked-code d (decoded f) (idy-shows f (i .first) (i .past)) in
-          let e = ranged idy f (omega (arith, i .first)) (omega (arith, i .past)) in
-          let v = code-of idy (kindAt f) (marked d (decoded f)) (sym e) w in
+          let v = code-of idy (kindAt f) (marked d (decoded f)) (idy-kind f (i .first) (i .past)) w in
           rw (idy-frame d f (i .first) (i .past)) (record { first = omega (arith, v .0); past = omega (arith, v .1) });
       same-bits =
           λ d f i. rw (idy-frame d f (i .first) (i .past))
@@ -162,16 +152,16 @@ pub service-shown : ServiceShown
 service-shown d f b a s = told d f .shown b a s
 
 -- a frame with C1 goes out as it came
-passed : (d : Device) (f : ℕ) → Shows (decoded f) → HasC1 f → marked d (decoded f) ≡ f
+passed : (d : Device) (f : ℕ) → Shows (decoded f) → ShowsC1 f → marked d (decoded f) ≡ f
 passed d f s h = marked-same d (decoded f) h ∙ has f (free (kindAt f) (s .free) .listed) .frame
 
-heard-same : (d : Device) (f : ℕ) → Shows (decoded f) → HasC1 f → heard d (decoded f) .frame ≡ f
+heard-same : (d : Device) (f : ℕ) → Shows (decoded f) → ShowsC1 f → heard d (decoded f) .frame ≡ f
 unfolding heard
 heard-same d f s h =
     let m = passed d f s h in
     chosen (λ (s : Sent). s .frame ≡ f) (eqb (d .listener) 1) _ _ (λ e. m) (λ e. m)
 
-dataOrEnd-same : (d : Device) (f : ℕ) → d .talker ≤ addressed → Shows (decoded f) → HasC1 f →
+dataOrEnd-same : (d : Device) (f : ℕ) → d .talker ≤ addressed → Shows (decoded f) → ShowsC1 f →
     dataOrEnd d (decoded f) .frame ≡ f
 unfolding dataOrEnd
 dataOrEnd-same d f t s h =

@@ -10,6 +10,7 @@ use lib.Dec.{eqb, ltb}
 use borrow.Author.Tests.{eqb-true, ltb-false}
 use Rattle.frame.specs.declared.Kind.the-variants.{Aad}
 use Rattle.frame.specs.Messages.{kindAt, messages, firstIn, firstOf, codesIn, codesOf}
+use Rattle.frame.specs.Classes.{IsCommand}
 use Rattle.frame.specs.Decoding.{dab, end, hasC1, decoded}
 use Rattle.frame.specs.declared.Message.{Message}
 use Rattle.device.specs.Choose.{choose}
@@ -22,8 +23,7 @@ use Rattle.device.specs.Reply.{sendsData, sendsOther, continues}
 use Rattle.device.specs.Ready.{requested, polls, sst, nrd, aad}
 use Rattle.device.specs.Data.{returned, heard, dataOrEnd}
 use Rattle.device.specs.Take.{rules, takes}
-use Rattle.device.specs.Classes.{IsCommand}
-use Rattle.device.specs.Sentences.{Of, HasC1, Sending, ShowsService, OfBytes, Zeroed}
+use Rattle.device.specs.Sentences.{Of, ShowsC1, Sending, ShowsService, OfBytes, Zeroed}
 use Rattle.device.specs.declared.Device.{Device}
 use Rattle.device.specs.declared.Handed.{Handed}
 use Rattle.device.specs.declared.Handed.the-variants.{Nothing}
@@ -42,7 +42,7 @@ pub record Told (d : Device) (f : ℕ) (s : Sent) : Type 0 where
   pub command : IsCommand f → s .frame ≡ f
   pub unhanded : Sending d → s .handed ≡ Nothing
   pub left : Sending d → Left d (s .device)
-  pub shown : OfBytes d → s .device .service ≡ asking → ShowsService (s .frame) → HasC1 (s .frame)
+  pub shown : OfBytes d → s .device .service ≡ asking → ShowsService (s .frame) → ShowsC1 (s .frame)
 
 stays : (d e : Device) → e .talker ≡ d .talker → Left d e
 stays d e q n = absurd (n q)
@@ -64,14 +64,14 @@ polls-kept d b =
 no-service : (f : ℕ) → 0x400 ≤ f → f < 0x600 → ShowsService f → ⊥
 no-service f l h = ⊎-elim (λ i. omega (arith, i .past)) (λ i. omega (arith, i .first))
 
-data-asks : (d : Device) → OfBytes d → d .service ≡ asking → HasC1 (dataFrame d)
+data-asks : (d : Device) → OfBytes d → d .service ≡ asking → ShowsC1 (dataFrame d)
 unfolding dataFrame hasC1
 data-asks d b a =
     let o = b .load (d .sent) in
-    chosen HasC1 (eqb (d .sent + 1) (d .loadlength)) _ _ (λ e. marked-asks d _ (reply end _ refl o) a)
+    chosen ShowsC1 (eqb (d .sent + 1) (d .loadlength)) _ _ (λ e. marked-asks d _ (reply end _ refl o) a)
     (λ e. marked-asks d _ (reply dab _ refl o) a)
 
-other-asks : (d : Device) → OfBytes d → d .service ≡ asking → HasC1 (otherFrame d)
+other-asks : (d : Device) → OfBytes d → d .service ≡ asking → ShowsC1 (otherFrame d)
 unfolding hasC1
 other-asks d b a = marked-asks d _ (reply dab (otherByte d) refl (other-small d b)) a
 
@@ -131,7 +131,7 @@ module _ (d : Device) (f : ℕ) (n : IsCommand f → ⊥) where
         }
 
     module _ (same : Sending d → e .talker ≡ d .talker) (bytes : OfBytes d → OfBytes e) where
-      counting-told : (x s r : ℕ) → (OfBytes e → e .service ≡ asking → HasC1 x) →
+      counting-told : (x s r : ℕ) → (OfBytes e → e .service ≡ asking → ShowsC1 x) →
           Told d f (sends (counting e x s r) x)
       counting-told x s r h =
           record {

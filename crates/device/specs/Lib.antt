@@ -9,6 +9,5 @@ pub mod Reply
 pub mod Ready
 pub mod Data
 pub mod Take
-pub mod Classes
 pub mod Sentences
 pub mod Rows

@@ -1,5 +1,5 @@
--- Sentences of 01, "What a device does with a frame", in its order, and of 02, b: each holds for every device, sound or
--- not, and every frame. Proved in proofs/Sentences.antt.
+-- Sentences of 01, "What a device does with a frame", in its order, and of 02, b: each holds for every frame and every
+-- device, sound or not, but for `ServiceShown`, which asks for bytes. Proved in proofs/Sentences.antt.
 use Prim.Native.Nat.{ℕ, _≤_, _<_}
 use mathlib.Core.Path.{_≡_}
 use mathlib.Core.Logic.{_⊎_}
@@ -8,13 +8,13 @@ use lib.ListN.{getD}
 use Rattle.frame.specs.declared.Kind.{Kind}
 use Rattle.frame.specs.declared.Kind.the-variants.{Lad, Tad, Aad}
 use Rattle.frame.specs.Messages.{numberOf}
+use Rattle.frame.specs.Classes.{IsData, IsCommand, IsIdentify}
 use Rattle.frame.specs.Decoding.{decoded, frameOf}
 use Rattle.device.specs.Choose.{choose}
 use Rattle.device.specs.Device.{idle, addressed, asking, noAddress}
 use Rattle.device.specs.Change.{talking}
 use Rattle.device.specs.Reply.{eto, ete, sends, withC1, stops, continues}
 use Rattle.device.specs.Take.{takes}
-use Rattle.device.specs.Classes.{IsData, IsCommand, IsIdentify}
 use Rattle.device.specs.declared.Device.{Device}
 use Rattle.device.specs.declared.Handed.the-variants.{Nothing}
 
@@ -22,9 +22,9 @@ use Rattle.device.specs.declared.Handed.the-variants.{Nothing}
 abbrev pub Of : Kind → ℕ → Type 0
 Of k f = decoded f .kind ≡ numberOf k
 
--- its control bit C1 is set
-abbrev pub HasC1 : ℕ → Type 0
-HasC1 f = decoded f .c1 ≡ 1
+-- it is decoded with C1 set
+abbrev pub ShowsC1 : ℕ → Type 0
+ShowsC1 f = decoded f .c1 ≡ 1
 
 -- talker states 2-5, and what is above them in a device that is not sound
 abbrev pub Sending : Device → Type 0
@@ -80,23 +80,24 @@ pub record IdyGoesOn : Type 0 where
 abbrev pub ShowsService : ℕ → Type 0
 ShowsService f = IsData f ⊎ IsIdentify f
 
--- what a device can reply with is bytes, as in every record
+-- what a device can reply with is bytes, as of every sound device (keeps:GoodOfBytes)
 pub record OfBytes (d : Device) : Type 0 where
   pub status : d .status < 256
   pub accessory : d .accessory < 256
   pub id : (i : ℕ) → getD (d .id) i 0 < 256
   pub load : (i : ℕ) → getD (d .load) i 0 < 256
 
--- Every DAB, END or IDY sent has C1 set if service, after the frame, is 1.
+-- Every DAB, END or IDY sent has C1 set if service, after the frame, is 1 (a number over 255 in place of a byte would
+-- make another frame).
 abbrev pub ServiceShown : Type 0
 ServiceShown =
     (d : Device) (f : ℕ) → OfBytes d → takes d f .device .service ≡ asking → ShowsService (takes d f .frame) →
-    HasC1 (takes d f .frame)
+    ShowsC1 (takes d f .frame)
 
 -- C1 is never cleared on a frame passed: with C1 set, data, end and IDY go on as they came.
 pub record C1Kept : Type 0 where
-  pub on-data : (d : Device) (f : ℕ) → d .talker ≤ addressed → IsData f → HasC1 f → takes d f .frame ≡ f
-  pub on-idy : (d : Device) (f : ℕ) → IsIdentify f → HasC1 f → takes d f .frame ≡ f
+  pub on-data : (d : Device) (f : ℕ) → d .talker ≤ addressed → IsData f → ShowsC1 f → takes d f .frame ≡ f
+  pub on-idy : (d : Device) (f : ℕ) → IsIdentify f → ShowsC1 f → takes d f .frame ≡ f
 
 -- Leaving states 2-5 zeroes bytes 8, 14, 15, 16.
 pub record Zeroed (d : Device) : Type 0 where

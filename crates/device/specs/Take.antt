@@ -1,5 +1,5 @@
 -- What a device does with a frame of each kind: a rule a kind, and every kind without a rule goes on unchanged. A frame
--- is decoded once, here, and the rules take its address, data bits and C1 from that (02, g).
+-- is decoded once, here, and the rules take its address, data bits, end bit and C1 from that (02, g).
 use Prim.Native.Nat.{ℕ}
 use mathlib.Core.List.{List, [], _∷_}
 use lib.Dec.{eqb}

@@ -1,9 +1,9 @@
 -- The laws of the codes, each from the order of the message table: a kind's codes are where its row says, and no other
--- row has them. The codes of a kind with C1 start at a multiple of 512, so that data bits and C1 place a frame among
--- them.
+-- row has them. Those of a kind with C1 start at a multiple of 512, so that data bits and C1 place a frame among them.
 use Prim.Native.Nat.{ℕ, _+_, _-_, _*_, _/_, _%_, _≤_, _<_}
 use mathlib.Core.Path.{_≡_, refl, sym, ap, _∙_}
 use mathlib.Core.Bool.{Bool, true, false, cond, _&&_, _||_}
+use mathlib.Core.Logic.{_⊎_, inl, inr, ⊎-elim}
 use native.Mathlib.Omega.{arith}
 use native.Mathlib.Decide.{decLt}
 use lib.Dec.{eqb, ltb}
@@ -84,10 +84,6 @@ no-offsets k i = split (hasC1 k) refl
     split true t = let h = free k t in omega (arith, no-kind k i, h .codes)
     split false t = offsets-coded k t ∙ no-kind k i
 
-pub offset-none : (k f : ℕ) → k ≡ 0 → offsetIn k f ≡ 0
-unfolding offsetIn hasC1
-offset-none k f e = rw e
-
 -- ---- decoder and encoder undo each other
 
 -- A frame of kind k that has offset o and C1 c
@@ -127,14 +123,14 @@ placed k o c i j = split (hasC1 k) refl
               same k o c f (rw e at (p .1)) (offset-coded k t (p .2) f ∙ omega arith) (c1-coded k t f ∙ sym z);
         }
 
-both : (a b : Bool) → (a && b) ≡ true → (a ≡ true) × (b ≡ true)
-both true b h = (refl, h)
-both false b h = never h
+pub both-true : (a b : Bool) → (a && b) ≡ true → (a ≡ true) × (b ≡ true)
+both-true true b h = (refl, h)
+both-true false b h = never h
 
 -- what inList says
 pub in-list : (m : Message) → inList m ≡ true → (m .offset < offsetsOf (m .kind)) × (m .c1 < c1sOf (m .kind))
 in-list m t =
-    let p = both (ltb (m .offset) (offsetsOf (m .kind))) (ltb (m .c1) (c1sOf (m .kind))) t in
+    let p = both-true (ltb (m .offset) (offsetsOf (m .kind))) (ltb (m .c1) (c1sOf (m .kind))) t in
     (ltb-true _ _ (p .0), ltb-true _ _ (p .1))
 
 abbrev isFrame : Encoded → Bool
@@ -194,26 +190,36 @@ decode-encode f i =
     let k = kindAt f in
     rw (lt-ltb (offsetIn k f) (offsetsOf k) (h .offset), lt-ltb (c1In k f) (c1sOf k) (h .c1), h .frame)
 
--- ---- DAB and END are told by C2, IDY by C3 and C2
+-- ---- data bytes and IDY, by the classes of frames
 
-pub cut : (k f : ℕ) → kindAt f ≡ k → hasC1 k ≡ true → decoded f ≡ message k (f % 256) (f / 256 % 2)
-cut k f e t = same k (f % 256) (f / 256 % 2) f e (offset-free k t f) (c1-free k t f)
-
-pub data-decoded : (f : ℕ) → f < 0x400 → decoded f ≡ message (1 + f / 512) (f % 256) (f / 256 % 2)
-unfolding messages firstIn firstOf codesIn codesOf hasC1
-data-decoded f h = go (decLt f 0x200)
+-- a data byte is a DAB or an END
+pub data-kind : (f : ℕ) → f < 0x400 → (kindAt f ≡ dab) ⊎ (kindAt f ≡ end)
+unfolding messages firstIn firstOf codesIn codesOf
+data-kind f h = go (decLt f 0x200)
   where
-    told : (k : ℕ) → k ≡ 1 + f / 512 → kindAt f ≡ k → hasC1 k ≡ true →
-        decoded f ≡ message (1 + f / 512) (f % 256) (f / 256 % 2)
-    told k n e t = rw (← n) (cut k f e t)
+    go : Dec (f < 0x200) → (kindAt f ≡ dab) ⊎ (kindAt f ≡ end)
+    go (yes i) = inl (sym (ranged dab f (omega arith) (omega arith)))
+    go (no i) = inr (sym (ranged end f (omega arith) (omega arith)))
 
-    go : Dec (f < 0x200) → decoded f ≡ message (1 + f / 512) (f % 256) (f / 256 % 2)
-    go (yes i) = told dab (omega arith) (sym (ranged dab f (omega arith) (omega arith))) refl
-    go (no i) = told end (omega arith) (sym (ranged end f (omega arith) (omega arith))) refl
+pub idy-kind : (f : ℕ) → 0x600 ≤ f → f < frames → kindAt f ≡ idy
+unfolding messages firstIn firstOf codesIn codesOf
+idy-kind f l h = sym (ranged idy f (omega arith) (omega arith))
 
-pub idy-decoded : (f : ℕ) → 0x600 ≤ f → f < frames → decoded f ≡ message idy (f % 256) (f / 256 % 2)
-unfolding messages firstIn firstOf codesIn codesOf hasC1
-idy-decoded f l h = cut idy f (sym (ranged idy f (omega arith) (omega arith))) refl
+-- and what is a DAB or an END is a data byte
+pub data-again : (f : ℕ) → (kindAt f ≡ dab) ⊎ (kindAt f ≡ end) → f < 0x400
+unfolding messages firstIn firstOf codesIn codesOf
+data-again f =
+    ⊎-elim (λ e. omega (arith, within-kind f dab e (omega arith) .1))
+    (λ e. omega (arith, within-kind f end e (omega arith) .1))
+
+-- so each has a C1
+pub data-free : (f : ℕ) → f < 0x400 → hasC1 (kindAt f) ≡ true
+unfolding hasC1
+data-free f h = ⊎-elim (λ e. ap hasC1 e) (λ e. ap hasC1 e) (data-kind f h)
+
+pub idy-free : (f : ℕ) → 0x600 ≤ f → f < frames → hasC1 (kindAt f) ≡ true
+unfolding hasC1
+idy-free f l h = ap hasC1 (idy-kind f l h)
 
 -- ---- kind 0
 

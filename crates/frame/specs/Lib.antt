@@ -1,5 +1,7 @@
--- The definitions of the codes: the message table, the one decoding, the answers, and the laws between them.
+-- The definitions of the codes: the message table, the classes, the one decoding, the answers, and the laws between
+-- them.
 pub mod Messages
+pub mod Classes
 pub mod Decoding
 pub mod Coding
 pub mod Laws

@@ -89,7 +89,7 @@ unfoldable pub codesIn : List Row → ℕ → ℕ
 codesIn [] k = 0
 codesIn (r ∷ rs) k = cond (eqb (r .kind) k) (r .last + 1 - r .first) (codesIn rs k)
 
--- The first code of kind k: a message's number is its frame less this
+-- The first code of kind k
 unfoldable pub firstOf : ℕ → ℕ
 firstOf k = firstIn messages k
 

@@ -1,9 +1,10 @@
 // The codes of the loop: the one decoding of a frame (its kind, its offset in the kind, and C1), and the frame that
-// these three make. No other crate takes a frame apart.
+// these three make. The rules of other crates take a frame's parts from here.
 ghost use mathlib.Core.Path.{_≡_};
 ghost use Prim.Native.Nat.{_<_};
 ghost use Rattle.frame.specs.Messages.{kinds, kindAt, numberOf, firstOf};
-ghost use Rattle.frame.specs.Decoding.{message, bitsOf, hasC1, decoded, offsetsOf, c1sOf, Coded};
+ghost use Rattle.frame.specs.Classes.{IsData};
+ghost use Rattle.frame.specs.Decoding.{message, hasC1, decoded, offsetsOf, c1sOf, WithC1, Coded};
 ghost use Rattle.frame.specs.Coding.{decodeOf, encodeOf};
 
 // Frames are the numbers below this.
@@ -13,6 +14,13 @@ pub const FRAMES: usize = 2048;
 pub const C1: u16 = 0x100;
 
 pub const C2: u16 = 0x200;
+
+// The numbers of the kinds with C1.
+pub const DAB: u8 = 1;
+
+pub const END: u8 = 2;
+
+pub const IDY: u8 = 42;
 
 // The refusal BadFrame.
 pub const BAD_FRAME: u8 = 4;
@@ -64,18 +72,11 @@ pub enum Kind {
     Idy,
 }
 
-// A frame decoded, its kind as a number.
+// A frame decoded, its kind as a number; kind 0 is that of a frame that is no message.
 pub struct Message {
     pub kind: u8,
     pub offset: u8,
     pub c1: u8,
-}
-
-// A frame cut into its bits: the data bits, C1, and C3 C2 above it. DAB, END and IDY are decoded by these alone.
-pub struct Bits {
-    pub low: u8,
-    pub c1: u8,
-    pub upper: u8,
 }
 
 // What the decoder answers: the decoding, or refusal 4.
@@ -303,11 +304,10 @@ fn offsets(kind: usize) -> u16
     OFFSETS[kind]
 }
 
-// DAB, END and IDY have a C1.
 fn has_c1(kind: u8) -> bool
     ensures { λ r. ⌜ r ≡ hasC1 kind ⌝ }
 {
-    (kind == 1) | ((kind == 2) | (kind == 42))
+    (kind == DAB) | ((kind == END) | (kind == IDY))
 }
 
 // How many values a kind's C1 has.
@@ -320,14 +320,24 @@ fn c1s(kind: u8) -> u8
     1
 }
 
-pub fn bits_of(frame: u16) -> Bits
-    ensures { λ r. ⌜ r ≡ bitsOf frame ⌝ }
+// A frame of a kind with C1, decoded.
+pub fn with_c1(kind: u8, frame: u16) -> Message
+    requires { ⌜ WithC1 kind frame ⌝ }
+    ensures { λ r. ⌜ r ≡ decoded frame ⌝ }
 {
-    Bits {
-        low: (frame % C1) as u8,
+    Message {
+        kind,
+        offset: (frame % C1) as u8,
         c1: (frame / C1 % 2) as u8,
-        upper: (frame / C2) as u8,
     }
+}
+
+// A data byte decoded: C2 tells an END from a DAB.
+pub fn data_of(frame: u16) -> Message
+    requires { ⌜ IsData frame ⌝ }
+    ensures { λ r. ⌜ r ≡ decoded frame ⌝ }
+{
+    with_c1(DAB + (frame / C2) as u8, frame)
 }
 
 // The offset of a frame in its kind, a kind of the list without C1.
@@ -349,12 +359,7 @@ pub fn decode(frame: u64) -> Decoded
     let kind = kind_of(f);
     let k = number(kind);
     if has_c1(k) {
-        let bits = bits_of(f);
-        return Decoded::Of(Message {
-            kind: k,
-            offset: bits.low,
-            c1: bits.c1,
-        });
+        return Decoded::Of(with_c1(k, f));
     }
     if k == 0 {
         return Decoded::Of(Message {

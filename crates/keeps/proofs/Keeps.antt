@@ -27,7 +27,8 @@ use Rattle.device.proofs.Chosen.{chosen, selected}
 use Rattle.device.proofs.Marked.{Shows, shows, marked-below}
 use Rattle.record_local.specs.Local.{Called}
 use Rattle.record.specs.Fits.{Good}
-use Rattle.keeps.specs.Keeps.{TakeKeeps, TakeBelow, LoadKeeps, StatusKeeps, WishKeeps}
+use Rattle.keeps.specs.Keeps.{TakeKeeps, TakeBelow, LoadKeeps, StatusKeeps, WishKeeps, LastIsData}
+use Rattle.keeps.specs.Keeps.{GoodOfBytes}
 use Rattle.keeps.proofs.Groups.{Kept, kept-of, good-of, lt-out}
 use Rattle.keeps.proofs.Changes.{listening-kept, resting-kept, placed-kept, serving-kept, noting-kept}
 use Rattle.keeps.proofs.Changes.{loading-kept, statusing-kept}
@@ -266,3 +267,10 @@ wish-good d w g =
     (λ e. chosen Good (eqb (d .service) 0) _ d
     (λ i. good-of _ (serving-kept d (kept-of d g) 1 (omega arith) (λ i. h))) (λ i. g)))
     (λ h. g)
+
+pub last-is-data : LastIsData
+last-is-data d g = record { past = omega (arith, kept-of d g .talks .last) }
+
+pub good-of-bytes : GoodOfBytes
+good-of-bytes d g =
+    let f = g .fits in record { status = f .status; accessory = f .accessory; id = f .id; load = f .load }

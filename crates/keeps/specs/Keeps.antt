@@ -3,6 +3,8 @@ use Prim.Native.Nat.{ℕ, _<_}
 use mathlib.Core.List.{List}
 use Rattle.frame.specs.Messages.{frames}
 use Rattle.device.specs.Take.{takes}
+use Rattle.frame.specs.Classes.{IsData}
+use Rattle.device.specs.Sentences.{OfBytes}
 use Rattle.record_local.specs.Local.{loads, setsStatus, wishes}
 use Rattle.device.specs.declared.Device.{Device}
 use Rattle.record.specs.Fits.{Bytes, Good}
@@ -24,3 +26,10 @@ StatusKeeps = (d : Device) (s : ℕ) → s < 256 → Good d → Good (setsStatus
 
 abbrev pub WishKeeps : Type 0
 WishKeeps = (d : Device) (w : ℕ) → Good d → Good (wishes d w .device)
+
+-- What a sound device holds: the last frame that it sent is a data byte, and what it can reply with is bytes
+abbrev pub LastIsData : Type 0
+LastIsData = (d : Device) → Good d → IsData (d .last)
+
+abbrev pub GoodOfBytes : Type 0
+GoodOfBytes = (d : Device) → Good d → OfBytes d

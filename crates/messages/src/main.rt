@@ -1,6 +1,5 @@
-// Runs the message table of document 001: for each message the bits as the table prints them, the codes that they stand
-// for, and what the decoder and the encoder make of these (a decoding as kind.offset.C1); then the kind of every frame,
-// and the refusals.
+// Runs the message table of document 001: each message's bits as the table prints them, its codes, and what decoder (as
+// kind.offset.C1) and encoder make of these; then the kind of every frame, and the refusals.
 use print::decimal;
 use print::hex;
 use print::text;

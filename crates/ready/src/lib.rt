@@ -11,7 +11,7 @@ ghost use Prim.Native.Nat.{_<_};
 ghost use lib.ListN.{length};
 ghost use Rattle.device.specs.Ready.{requested, polls, sst, nrd, aad};
 ghost use Rattle.device.specs.Take.{takes};
-ghost use Rattle.device.specs.Classes.{IsReady};
+ghost use Rattle.frame.specs.Classes.{IsReady};
 ghost use Rattle.device.specs.declared.Device.{Device};
 ghost use Rattle.record.specs.Record.{recordSize};
 ghost use Rattle.state.specs.State.{with, inRecord, sentFrom};

@@ -12,10 +12,10 @@ use state::Passed;
 use state::State;
 use state::sends;
 ghost use mathlib.Core.Path.{_≡_};
-ghost use Prim.Native.Nat.{_<_};
+ghost use Prim.Native.Nat.{_*_, _≤_, _<_};
 ghost use lib.ListN.{length};
 ghost use Rattle.frame.specs.Messages.{frames};
-ghost use Rattle.frame.specs.Decoding.{frameOf};
+ghost use Rattle.frame.specs.Decoding.{c1Adds, frameOf};
 ghost use Rattle.frame.specs.declared.Message.{Message};
 ghost use Rattle.device.specs.Reply.{marked, stops, dataFrame, otherByte, otherLength, sendsData, sendsOther};
 ghost use Rattle.device.specs.Reply.{continues};
@@ -30,7 +30,7 @@ pub const ETE: u16 = 0x541;
 // The frame of a message, with the message's C1 beside it, as it goes out: C1 is set where service is asked for, and
 // never cleared.
 pub fn marked(state: State, frame: u16, c1: u8) -> u16
-    requires { ⌜ (frame < frames) × (c1 < 2) ⌝ }
+    requires { ⌜ (frame < frames) × (c1 < 2) × (c1Adds * c1 ≤ frame) ⌝ }
     ensures { λ r. ⌜ ((d : Device) (m : Message) → frame ≡ frameOf m → c1 ≡ m .c1 → r ≡ marked (with d state) m) ⌝ }
 {
     if state.service == Device::ASKING {

@@ -8,6 +8,7 @@ use state::State;
 use state::sends;
 ghost use mathlib.Core.Path.{_≡_};
 ghost use lib.ListN.{length};
+ghost use Rattle.frame.specs.Classes.{IsData};
 ghost use Rattle.device.specs.Take.{takes};
 ghost use Rattle.record.specs.Record.{recordSize, deviceOf};
 ghost use Rattle.record.specs.Written.{IsRecord};
@@ -27,7 +28,7 @@ const IDENTIFY: u16 = 0x600;
 impl Taker {
     // By the frame's class (001, control bits): its record lies beside it, and is not copied.
     pub fn take(self, rec: &[u8], frame: u16) -> Passed
-        requires { ⌜ length (now rec) ≡ recordSize ⌝ }
+        requires { ⌜ (length (now rec) ≡ recordSize) × IsData (self .0 .last) ⌝ }
         ensures { λ r. ⌜ sentFrom (now (rec .entry)) r ≡ takes (inRecord (now (rec .entry)) (self .0)) frame ⌝ }
     {
         let state = self.0;
@@ -47,9 +48,10 @@ impl Taker {
     }
 }
 
-// The device of a record takes a frame, and only the bytes of its state are written back.
+// The device of a record, whose last frame sent is a data byte as in every sound one, takes a frame; only the bytes of
+// its state are written back.
 pub fn take_in(rec: &mut [u8], frame: u16) -> Passed
-    requires { ⌜ IsRecord (now rec) ⌝ }
+    requires { ⌜ IsRecord (now rec) × IsData (deviceOf (now rec) .last) ⌝ }
     ensures { λ r. ⌜ InPlace (now (rec .entry)) (takes (deviceOf (now (rec .entry))) frame) r (now (rec .exit)) ⌝ }
 {
     let passed = Taker(State::read(rec)).take(rec, frame);

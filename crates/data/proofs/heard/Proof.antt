@@ -1,49 +1,37 @@
--- `data::heard` meets its contract: the bits are those of the decoding, and each return follows from the test on its
--- way.
-use Prim.Native.Nat.{ℕ}
-use mathlib.Core.Path.{_≡_, sym, ap, _∙_}
+-- `data::heard` meets its contract: each return follows from the test on its way, and the parts of the frame are those
+-- of its decoding.
+use mathlib.Core.Path.{_≡_, ap, _∙_}
 use native.Mathlib.Omega.{arith}
 use borrow.Author.Needs.{needs}
 use Rattle.frame.specs.Decoding.{decoded}
-use Rattle.frame.specs.declared.Bits.{Bits}
+use Rattle.frame.specs.declared.Message.{Message}
+use Rattle.frame.proofs.Laws.{data-free}
 use Rattle.device.specs.Reply.{marked}
 use Rattle.device.specs.Data.{endBit, heard}
 use Rattle.device.specs.declared.Device.{Device}
 use Rattle.device.proofs.Arms.{arms}
+use Rattle.device.proofs.Marked.{asked}
 use Rattle.state.specs.State.{with}
-use Rattle.data.proofs.Cut.{offset-is, data-c1, data-frame, data-end}
 use Rattle.data.proofs.heard.Statement.{statement}
 use Rattle.data.proofs.heard.Tie as tie
 
--- the parts of the decoding that the code has
-record Read (f : ℕ) (b : Bits) : Type 0 where
-  offset : b .low ≡ decoded f .offset
-  c1 : b .c1 ≡ decoded f .c1
-  end : b .upper ≡ endBit (decoded f)
-
-read : (c : tie.After-bits-of) → Read (c .before .args .frame) (c .bits-of .result)
-read c =
-    let f = c .before .args .frame in
-    let h = c .before .pre .past in
-    record {
-      offset = ap (λ (b : Bits). b .low) (c .bits-of .ensures) ∙ sym (offset-is f h);
-      c1 = ap (λ (b : Bits). b .c1) (c .bits-of .ensures) ∙ data-c1 f h;
-      end = ap (λ (b : Bits). b .upper) (c .bits-of .ensures) ∙ data-end f h;
-    }
+c1 : (c : tie.After-data-of) → c .data-of .result .c1 ≡ decoded (c .before .args .frame) .c1
+c1 c = ap (λ (m : Message). m .c1) (c .data-of .ensures)
 
 -- the frame goes out marked
 out : (c : tie.After-marked) (d : Device) →
     let s = c .before .before in c .marked .result ≡ marked (with d (s .args .state)) (decoded (s .args .frame))
 out c d =
     let s = c .before .before in
-    c .marked .ensures d (decoded (s .args .frame)) (data-frame (s .args .frame) (s .pre .past)) (read (c .before) .c1)
+    let f = s .args .frame in
+    c .marked .ensures d (decoded f) (asked f (data-free f (s .pre .past)) .frame) (c1 (c .before))
 
 returns : tie.Need-returns
 unfolding heard
 returns c d =
-    let m = c .before .before in
-    let r = read (m .before) in
-    rw (← out m d, ← r .offset, ← r .end) (search arms)
+    let m = c .before .before .before in
+    let e = m .before .data-of .ensures in
+    rw (← out m d, ← ap (λ (n : Message). n .offset) e, ← (c .end-bit .ensures ∙ ap endBit e)) (search arms)
 
 returns-2 : tie.Need-returns-2
 unfolding heard
@@ -54,7 +42,9 @@ heard-spec =
     tie.close
     (tie.spec
     (λ c κs. search needs)
-    (λ c κs. (omega (arith, c .before .pre .past), omega (arith, ap (λ (b : Bits). b .c1) (c .bits-of .ensures))))
+    (λ c κs. let a = asked (c .before .args .frame) (data-free (c .before .args .frame) (c .before .pre .past)) in
+    let e = c1 c in (omega (arith, c .before .pre .past), omega (arith, a .c1), omega (arith, a .within)))
+    (λ c κs. search needs)
     returns
     (λ c κs. search needs)
     returns-2)

@@ -10,7 +10,7 @@ use Rattle.frame.specs.Decoding.{hasC1, decoded}
 use Rattle.frame.specs.Coding.{decodeOf}
 use Rattle.frame.specs.declared.Message.{Message}
 use Rattle.frame.specs.declared.Decoded.the-variants as decoder
-use Rattle.frame.proofs.Laws.{same, cut, nought, c1-coded}
+use Rattle.frame.proofs.Laws.{same, nought, c1-coded}
 use Rattle.frame.proofs.decode.Statement.{statement}
 use Rattle.frame.proofs.decode.Tie as tie
 
@@ -28,11 +28,9 @@ known c = c .number .ensures ∙ c .before .kind-of .ensures
 
 returns-2 : tie.Need-returns-2
 returns-2 c =
-    let i = c .before in
-    let n = i .before .before in
+    let n = c .before .before .before in
     let f = n .before .before .before .args .frame in
-    inside f _ (omega (arith, n .before .before .if1 .left))
-    (rw (c .bits-of .ensures) (sym (cut _ f (sym (known n)) (sym (i .before .has-c1 .ensures) ∙ i .if2 .taken))))
+    inside f _ (omega (arith, n .before .before .if1 .left)) (c .with-c1 .ensures)
 
 returns-3 : tie.Need-returns-3
 returns-3 c =
@@ -62,7 +60,10 @@ decode-spec =
     (λ c κs. search needs)
     (λ c κs. search needs)
     (λ c κs. search needs)
-    (λ c κs. search needs)
+    (λ c κs. record {
+      kind = known (c .before .before);
+      free = sym (c .before .has-c1 .ensures) ∙ c .if2 .taken;
+    })
     returns-2
     returns-3
     (λ c κs. let n = c .before .before .before in

@@ -2,7 +2,7 @@
 -- the frame, which is sound as it was before.
 use Rattle.device.specs.Take.{takes}
 use Rattle.record.specs.Fits.{Bytes}
-use Rattle.keeps.proofs.Keeps.{take-keeps}
+use Rattle.keeps.proofs.Keeps.{take-keeps, last-is-data}
 use Rattle.area.specs.Loop.{loopOf, device}
 use Rattle.area.proofs.Areas.{loop-good}
 use Rattle.area.proofs.Held.{device-lent, record-lent, device-held}
@@ -14,8 +14,13 @@ take-in-requires : tie.Need-take-in-requires
 take-in-requires c κs =
     let k = c .before in
     let s = k .before .before .before in
-    record-lent (s .args .area .now) (λ i. k .before .before .slice-known .given i .fits) (s .args .i)
-    (k .record-start .result) (s .pre) (k .record-start .ensures)
+    let a = s .args .area .now in
+    let i = s .args .i in
+    let small : Bytes a = λ j. k .before .before .slice-known .given j .fits in
+    let e = device-lent a small i (k .record-start .result) (s .pre) (k .record-start .ensures) in (
+      record-lent a small i (k .record-start .result) (s .pre) (k .record-start .ensures),
+      rw e (last-is-data _ (loop-good a small (s .pre .judged) .devices i)),
+    )
 
 returns : tie.Need-returns
 returns c =

@@ -1,6 +1,7 @@
 -- `taker::take_in` meets its contract: a record's state in its own place is the record's device, and the state that is
 -- written back makes it the record of the device after the frame.
 use mathlib.Core.Path.{_≡_, sym, ap, _∙_}
+use native.Mathlib.Omega.{arith}
 use borrow.Author.Needs.{needs}
 use Rattle.device.specs.declared.Device.{Device}
 use Rattle.device.specs.Sent.{Sent}
@@ -21,6 +22,15 @@ passes c =
     let s = r .before .before .before in
     c .take .ensures ∙ ap (λ (d : Device). takes d (s .args .frame)) (r .read .ensures)
 
+-- the last frame sent, read from the record, is the record's
+last : tie.Need-take-requires
+last c κs =
+    let r = c .before in
+    let s = r .before .before .before in (
+      s .pre .0 .long,
+      record { past = omega (arith, s .pre .1 .past, ap (λ (d : Device). d .last) (r .read .ensures)) },
+    )
+
 returns : tie.Need-returns
 returns c =
     let w = c .before .before in
@@ -32,7 +42,7 @@ returns c =
       passes = e;
       leaves =
           w .write .ensures
-          ∙ ap (written (values (t .take .result .state))) (sym (s .pre .whole))
+          ∙ ap (written (values (t .take .result .state))) (sym (s .pre .0 .whole))
           ∙ write-back (deviceOf b) (t .take .result .state)
           ∙ ap (λ (x : Sent). recordOf (x .device)) e;
     }
@@ -42,7 +52,7 @@ take-in-spec =
     tie.close
     (tie.spec
     (λ c κs. search needs)
-    (λ c κs. search needs)
+    last
     (λ c κs. search needs)
     (λ c. search needs)
     returns)
