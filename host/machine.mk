@@ -5,7 +5,8 @@ CXX = g++
 RUN =
 else
 CC = x86_64-linux-gnu-gcc
-CXX = x86_64-linux-gnu-g++
+# Told -x c++ it compiles C++, and links no libm, whose cross package names files that are not there.
+CXX = x86_64-linux-gnu-gcc
 RUN = qemu-x86_64 -L /usr/x86_64-linux-gnu
 EMULATED = -DEMULATED
 endif
