@@ -1,14 +1,12 @@
 -- The laws of the calls: a contract leaves one answer, a call on an area is its call on the loop, every call keeps.
 use mathlib.Core.Path.{sym, _∙_}
-use native.Mathlib.Omega.{arith}
 use Rattle.keeps.proofs.Keeps.{load-good, status-good, wish-good}
 use Rattle.area.proofs.Areas.{holds-of}
 use Rattle.calls.specs.Outcome.{loopAfter}
-use Rattle.calls.specs.Laws.{Unique, CallOnLoop, AreaAfter, LoadKeeps, StatusKeeps, WishKeeps, OwedFew}
+use Rattle.calls.specs.Laws.{Unique, CallOnLoop, AreaAfter, LoadKeeps, StatusKeeps, WishKeeps}
 use Rattle.record_local.specs.Local.{loads, setsStatus, wishes}
 use Rattle.calls.proofs.Outcomes.{call-done}
 use Rattle.calls.proofs.Kept.{local-keeps}
-use Rattle.calls.proofs.Owing.{owed-few}
 use Rattle.calls.proofs.Turns.{after-area}
 
 pub unique : Unique
@@ -30,7 +28,3 @@ status-keeps i s small = local-keeps (λ d. setsStatus d s) (λ d g. status-good
 
 pub wish-keeps : WishKeeps
 wish-keeps i w = local-keeps (λ d. wishes d w) (λ d g. wish-good d w g) i
-
-pub owed-at-most : OwedFew
-owed-at-most l s = let e = owed-few (l .links) (omega (arith, s .ends, s .few)) (λ j. s .frames j .few) in omega
-    (arith, s .ends, s .few)

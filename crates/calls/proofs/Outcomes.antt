@@ -20,6 +20,11 @@ use Rattle.calls.specs.Outcome.{Outcome, refuse, done, after, afterOf, c
 use Rattle.calls.specs.Calls.{noDevice, empty, full, ofOldest, intoRoom, putIn, takenFrom, takeIn, hopAnswer}
 use Rattle.calls.specs.Calls.{sentBy, passed, passes, passesOn, hopIn, calledIn, localIn}
 
+-- a call that is done
+abbrev pub IsDone : {A : Type 0} → Outcome A → Type 0
+IsDone (refuse k) = ⊥
+IsDone (done r m) = Unit {0}
+
 -- ---- any call
 
 module _ {A : Type 0} (deny : ℕ → A) (call : Loop → Outcome A) (a : List ℕ) where

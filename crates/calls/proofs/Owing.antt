@@ -1,37 +1,43 @@
--- Hops owed: a hop moves a frame from one link into the next, which lies behind one device less.
-use mathlib.Core.Path.{_≡_}
-use mathlib.Core.List.{List, [], _∷_, _++_, tail}
-use Prim.Native.Nat.{ℕ, zero, suc, _+_, _*_, _≤_, _<_}
-use native.Mathlib.Nat.{le-of-suc-le-suc, mul-le-mul-right}
+-- A loop owes what the line of its links and devices owes: so a hop pays one of the hops owed, and they are few.
+use Prim.Native.Nat.{ℕ, _+_, _*_, _≤_}
+use mathlib.Core.Path.{_≡_, refl}
+use mathlib.Core.Option.{Option, none, some}
 use native.Mathlib.Omega.{arith}
-use lib.ListN.{length, getD, set, length-append, length-set}
+use native.Mathlib.Nat.{mul-le-mul-right}
 use Rattle.area.specs.Sizes.{depth, mostDevices}
-use Rattle.calls.specs.Owed.{owed}
+use Rattle.area.specs.Loop.{Loop, size, Sound-loop}
+use Rattle.order.specs.Line.{Line}
+use Rattle.order.specs.Flat.{Flat, hopFlat}
+use Rattle.order.specs.Owed.{owed}
+use Rattle.order.proofs.Owed as order
+use Rattle.calls.specs.Outcome.{Outcome, loopAfter}
+use Rattle.calls.specs.Calls.{hopIn}
+use Rattle.calls.specs.declared.HopAnswer.{HopAnswer}
+use Rattle.calls.proofs.Outcomes.{IsDone}
+use Rattle.calls.proofs.Lined.{ruled, Alike, both-refuse, both-do, hop-alike}
 
--- links after a frame f went from link i into the next
-abbrev pub moved : ℕ → ℕ → List (List ℕ) → List (List ℕ)
-moved i f qs = let ps = set qs i (tail (getD qs i [])) in set ps (suc i) (getD ps (suc i) [] ++ (f ∷ []))
+-- what is handed, and local calls, do not matter here
+abbrev line : Line
+line = ruled {Local = ⊥} {Byte = ⊥} (λ d f. none) (λ d c. none)
 
-pub owed-moved : (qs : List (List ℕ)) (i f : ℕ) → suc i < length qs → 0 < length (getD qs i []) →
-    owed (moved i f qs) + 1 ≡ owed qs
-unfolding owed
-owed-moved [] i f h s = let z : ⊥ = omega arith in absurd z
-owed-moved (q ∷ []) i f h s = let z : ⊥ = omega arith in absurd z
-owed-moved ([] ∷ r ∷ qs) zero f h s = let z : ⊥ = omega arith in absurd z
-owed-moved ((x ∷ q) ∷ r ∷ qs) zero f h s = rw length-append (omega arith)
-owed-moved (q ∷ r ∷ qs) (suc i) f h s =
-    let ps = moved i f (r ∷ qs) in
-    let e : owed ps + 1 ≡ owed (r ∷ qs) = owed-moved (r ∷ qs) i f (le-of-suc-le-suc h) s in
-    let n : length ps ≡ length (r ∷ qs) = simp length-set in
-    let g : length q * length ps + owed ps + 1 ≡ length q * length (r ∷ qs) + owed (r ∷ qs) = rw n (omega arith) in
-    g
+abbrev lined : Loop → Flat line
+lined l = record { links = l .links; states = l .devices }
 
--- with at most four frames a link, and at most fifteen links behind it
-pub owed-few : (qs : List (List ℕ)) → length qs ≤ suc mostDevices → ((j : ℕ) → length (getD qs j []) ≤ depth) →
-    owed qs ≤ depth * mostDevices * length qs
-unfolding owed
-owed-few [] h few = omega arith
-owed-few (q ∷ qs) h few =
-    let m : length q * length qs ≤ depth * length qs = mul-le-mul-right (length qs) (few 0) in
-    let e = owed-few qs (omega arith) (λ j. few (suc j)) in
-    omega arith
+pub hop-pays : (i : ℕ) (l : Loop) → Sound-loop l → IsDone (hopIn i l) →
+    owed (loopAfter l (hopIn i l) .links) + 1 ≡ owed (l .links)
+hop-pays i l s = go (hopIn i l) (hopFlat (lined l) i) refl
+    (hop-alike {Local = ⊥} {Byte = ⊥} (λ d f. none) (λ d c. none) (λ r h. Unit {0}) (λ d f. tt) i (lined l))
+  where
+    go : (o : Outcome HopAnswer) (p : Option (Flat line × Option ⊥)) → hopFlat (lined l) i ≡ p →
+        Alike {Local = ⊥} {Byte = ⊥} (λ d f. none) (λ d c. none) HopAnswer (Option ⊥) (λ r h. Unit {0}) o p →
+        IsDone o → owed (loopAfter l o .links) + 1 ≡ owed (l .links)
+    go o none e (both-refuse k z) d = absurd d
+    go o (some q) e (both-do r m y h same u) d = rw same (order.hop-pays line (lined l) y i h (s .ends) e)
+
+-- with at most four frames in each link
+pub loop-owes : (l : Loop) → Sound-loop l → owed (l .links) ≤ 2 * (size l * (size l + 1))
+loop-owes l s = omega (arith, order.owed-at-most ℕ depth (size l) (l .links) (s .ends) (λ j. s .frames j .few))
+
+-- and with at most fifteen devices
+pub owed-few : (l : Loop) → Sound-loop l → owed (l .links) ≤ 2 * (mostDevices * (mostDevices + 1))
+owed-few l s = omega (arith, loop-owes l s, mul-le-mul-right (size l + 1) (s .few), s .few)

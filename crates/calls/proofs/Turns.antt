@@ -10,24 +10,21 @@ use lib.ListN.{length}
 use borrow.Author.Tests.{lt-ltb, eq-eqb, ne-eqb}
 use Rattle.record.specs.Fits.{Bytes}
 use Rattle.area.specs.Loop.{Loop, loopOf, areaOf, judgeOf, size, link, Sound-loop, Holds}
-use Rattle.area.specs.Lookup.{oldestOf, roomOf, placeOf}
+use Rattle.area.specs.Lookup.{oldestOf, roomOf}
 use Rattle.area.specs.declared.Oldest.{Oldest}
 use Rattle.area.specs.declared.Room.{Room}
 use Rattle.area.specs.declared.Place.{Place}
-use Rattle.area.proofs.Links.{some-frame}
 use Rattle.area.proofs.Areas.{area-holds, loop-good, holds-of}
+use Rattle.order.specs.Owed.{owed}
 use Rattle.calls.specs.Outcome.{Outcome, refuse, done, afterOf, Is, loopAfter}
-use Rattle.calls.specs.Calls.{atPlace, ofOldest, intoRoom, noHop, sentBy, passed, passes, passesOn, hopFrom}
-use Rattle.calls.specs.Calls.{hopIn}
+use Rattle.calls.specs.Calls.{ofOldest, intoRoom, noHop, passes, passesOn, hopIn}
 use Rattle.calls.specs.Drain.{noHopLeft, budgetSpent, byteHanded, noDrain, hasRoom, canFrom, canHop, highest}
 use Rattle.calls.specs.Drain.{stopped, handedTo, turned, drainFrom, drainIn}
-use Rattle.calls.specs.Owed.{owed}
-use Rattle.calls.specs.Laws.{HopPays}
 use Rattle.calls.specs.declared.HopAnswer.{HopAnswer}
 use Rattle.calls.specs.declared.DrainAnswer.{DrainAnswer}
 use Rattle.calls.proofs.Kept.{hop-keeps}
-use Rattle.calls.proofs.Outcomes.{place-at}
-use Rattle.calls.proofs.Owing.{owed-moved}
+use Rattle.calls.proofs.Outcomes.{IsDone}
+use Rattle.calls.proofs.Owing.{hop-pays}
 
 -- the area after a call
 pub after-area : {A : Type 0} (deny : ℕ → A) (l : Loop) (a : List ℕ) (o : Outcome A) → a ≡ areaOf l →
@@ -60,33 +57,7 @@ pub highest-none : (l : Loop) → highest 0 l ≡ Place.NoDevice
 unfolding highest
 highest-none l = refl
 
--- ---- a hop pays
-
-passed-pays : (i f : ℕ) (l : Loop) → Sound-loop l → i < size l → oldestOf (link l i) ≡ Oldest.Frame f →
-    owed (passed i f l .links) + 1 ≡ owed (l .links)
-passed-pays i f l s h e = owed-moved (l .links) i (sentBy i f l .frame) (omega (arith, s .ends))
-    (some-frame (link l i) f e)
-
-pub can-pays : (i : ℕ) (l : Loop) → Sound-loop l → i < size l → canHop i l ≡ true →
-    owed (loopAfter l (hopIn i l) .links) + 1 ≡ owed (l .links)
-unfolding hopIn canHop
-can-pays i l s h t = rw (lt-ltb _ _ h) (go (oldestOf (link l i)) refl t)
-  where
-    room : (f : ℕ) → oldestOf (link l i) ≡ Oldest.Frame f → (r : Room) → hasRoom r ≡ true →
-        owed (loopAfter l (intoRoom (passes i f l) r) .links) + 1 ≡ owed (l .links)
-    room f e (Room.Behind n) c = passed-pays i f l s h e
-    room f e Room.Full c = let z : _≡_ {A = ℕ} 0 1 = cc in let y : ⊥ = omega arith in absurd y
-
-    go : (o : Oldest) → oldestOf (link l i) ≡ o → canFrom i l o ≡ true →
-        owed (loopAfter l (ofOldest (passesOn i l) o) .links) + 1 ≡ owed (l .links)
-    go Oldest.Empty e c = let z : _≡_ {A = ℕ} 0 1 = cc in let y : ⊥ = omega arith in absurd y
-    go (Oldest.Frame f) e c = room f e (roomOf (link l (suc i))) c
-
--- a call that is done
-abbrev pub IsDone : {A : Type 0} → Outcome A → Type 0
-IsDone (refuse k) = ⊥
-IsDone (done r m) = Unit {0}
-
+-- a device that can hop does
 pub can-done : (i : ℕ) (l : Loop) → i < size l → canHop i l ≡ true → IsDone (hopIn i l)
 unfolding hopIn canHop
 can-done i l h t = rw (lt-ltb _ _ h) (go (oldestOf (link l i)) t)
@@ -211,8 +182,8 @@ module _ (a₀ a : List ℕ) (b n h : ℕ) (t : Turn a₀ a b n h) where
     pub next-turn : (r .handed ≡ 1 → ⊥) → length x ≡ length a → Turn a₀ x b n (h + 1)
     next-turn e k =
         let s = hop-keeps i l (t .sound) in
-        let p = can-pays i l (t .sound) (rw (t .count) at there) can in
         let did = can-done i l (rw (t .count) at there) can in
+        let p = hop-pays i l (t .sound) did in
         let d : b - (h + 1) ≡ b - h - 1 = omega arith in
         let f : loopOf x ≡ m = left .held in
         record {
@@ -225,24 +196,3 @@ module _ (a₀ a : List ℕ) (b n h : ℕ) (t : Turn a₀ a b n h) where
           rest = rw (f, d)
               (turn ∙ turned-on a i h (drainFrom (b - h - 1) (h + 1)) l r (hopIn i l) did (is .0) e);
         }
-
--- ---- any hop that is not refused pays
-
-pub hop-pays : HopPays
-unfolding hopIn
-hop-pays i l m r s e = there (placeOf l i) refl e
-  where
-    room : (k f : ℕ) → k < size l → oldestOf (link l k) ≡ Oldest.Frame f → (q : Room) →
-        intoRoom (passes k f l) q ≡ done r m → owed (m .links) + 1 ≡ owed (l .links)
-    room k f h o (Room.Behind n) d = let j : m ≡ passed k f l = cc in rw j (passed-pays k f l s h o)
-    room k f h o Room.Full d = let z : _≡_ {A = ℕ} 0 1 = cc in let y : ⊥ = omega arith in absurd y
-
-    oldest : (k : ℕ) → k < size l → (o : Oldest) → oldestOf (link l k) ≡ o → ofOldest (passesOn k l) o ≡ done r m →
-        owed (m .links) + 1 ≡ owed (l .links)
-    oldest k h Oldest.Empty p d = let z : _≡_ {A = ℕ} 0 1 = cc in let y : ⊥ = omega arith in absurd y
-    oldest k h (Oldest.Frame f) p d = room k f h p (roomOf (link l (suc k))) d
-
-    there : (p : Place) → placeOf l i ≡ p → atPlace (hopFrom l) p ≡ done r m → owed (m .links) + 1 ≡ owed (l .links)
-    there Place.NoDevice q d = let z : _≡_ {A = ℕ} 0 1 = cc in let y : ⊥ = omega arith in absurd y
-    there (Place.At k) q d =
-        let a = place-at l i k q in oldest k (rw (a .1) (a .0)) (oldestOf (link l k)) refl d

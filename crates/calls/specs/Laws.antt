@@ -1,20 +1,17 @@
 -- The laws of the calls, as statements. Their proofs are in proofs/Laws.antt.
-use Prim.Native.Nat.{ℕ, _+_, _*_, _≤_, _<_}
+use Prim.Native.Nat.{ℕ, _<_}
 use mathlib.Core.Path.{_≡_}
 use mathlib.Core.Bool.{true}
 use mathlib.Core.List.{List}
 use Rattle.record_local.specs.Local.{loads, setsStatus, wishes}
 use Rattle.record.specs.Fits.{Bytes}
 use Rattle.record.specs.Sound.{allowed}
-use Rattle.area.specs.Sizes.{depth, mostDevices}
 use Rattle.area.specs.Parts.{all}
 use Rattle.area.specs.Loop.{Loop, size, areaOf, Sound-loop, Holds}
-use Rattle.calls.specs.Outcome.{Outcome, done, After, afterOf, callOf, Is, loopAfter}
+use Rattle.calls.specs.Outcome.{Outcome, After, afterOf, callOf, Is, loopAfter}
 use Rattle.calls.specs.Calls.{putIn, takeIn, hopIn, localIn}
 use Rattle.calls.specs.Drain.{drainIn}
-use Rattle.calls.specs.Owed.{owed}
 use Rattle.calls.specs.SetUp.{itemsOf, itemsFit, poweredOn}
-use Rattle.calls.specs.declared.HopAnswer.{HopAnswer}
 
 -- A contract leaves one answer and one area
 abbrev pub Unique : Type 1
@@ -68,12 +65,3 @@ abbrev pub SetUpSound : Type 0
 SetUpSound =
     (n : ℕ) (a items : List ℕ) → Bytes items → itemsFit n a items ≡ true → all allowed (itemsOf n items) ≡ true →
     Sound-loop (poweredOn n items)
-
--- A hop pays one of the hops owed
-abbrev pub HopPays : Type 0
-HopPays =
-    (i : ℕ) (l m : Loop) (r : HopAnswer) → Sound-loop l → hopIn i l ≡ done r m → owed (m .links) + 1 ≡ owed (l .links)
-
--- and a sound loop owes no more than this
-abbrev pub OwedFew : Type 0
-OwedFew = (l : Loop) → Sound-loop l → owed (l .links) ≤ depth * mostDevices * (mostDevices + 1)

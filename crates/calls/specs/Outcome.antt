@@ -28,7 +28,11 @@ afterOf deny a (done r l) = after r (areaOf l)
 unfoldable pub callOf : {A : Type 0} → (ℕ → A) → (Loop → Outcome A) → List ℕ → After A
 callOf deny call a = cond (eqb (judgeOf a) 0) (afterOf deny a (call (loopOf a))) (after (deny (judgeOf a)) a)
 
--- the answer r and the area x are those: the form of every contract
+-- a call that only reads is done: it answers, and leaves the loop as it was
+abbrev pub reads : {A : Type 0} → (Loop → A) → Loop → Outcome A
+reads ask l = done (ask l) l
+
+-- the answer r and the area x are those: the form of the contract of every call that may change its area
 abbrev pub Is : {A : Type 0} → After A → A → List ℕ → Type 0
 Is o r x = (r ≡ o .answer) × (x ≡ o .area)
 

@@ -33,3 +33,10 @@ pub struct DrainAnswer {
     pub byte: u8,
     pub end: u8,
 }
+
+// The hops that the frames in the links still owe.
+#[repr(C)]
+pub struct OwedAnswer {
+    pub hops: u32,
+    pub refusal: u8,
+}

@@ -1,18 +1,16 @@
 -- A call on a loop is the call of the line of its devices: put, hop, take and the local calls do the same to the same
 -- links and devices, and refuse together; what each answers is what happened.
-use Prim.Native.Nat.{ℕ, zero, suc, _≤_, _<_}
+use Prim.Native.Nat.{ℕ, _<_}
 use mathlib.Core.Path.{_≡_, refl, ap}
 use mathlib.Core.Bool.{Bool, true, false, cond}
 use mathlib.Core.Option.{Option, none, some, Option·map}
 use mathlib.Core.List.{List, [], _∷_, tail}
 use native.Mathlib.Omega.{arith}
-use native.Mathlib.Nat.{not-suc-le-zero, le-of-suc-le-suc}
-use lib.ListN.{length, getD, getElem?}
+use lib.ListN.{length, getD}
 use lib.Dec.{eqb, ltb}
 use borrow.Author.Tests.{eqb-false, ltb-true, ltb-false, lt-ltb}
 use Rattle.frame.specs.Messages.{frames}
 use Rattle.device.specs.Take.{takes}
-use Rattle.device.specs.declared.Device.{Device}
 use Rattle.device.specs.declared.Handed.{Handed}
 use Rattle.device.specs.declared.Handed.the-variants as handed
 use Rattle.record_local.specs.Local.{Called}
@@ -22,15 +20,18 @@ use Rattle.area.specs.Lookup.{oldestOf, setDevice, setLink, add}
 use Rattle.area.specs.declared.Room.{Room}
 use Rattle.area.specs.declared.Place.{Place}
 use Rattle.calls.specs.Outcome.{Outcome, refuse, done}
-use Rattle.calls.specs.Calls.{atPlace, ofOldest, intoRoom, hopAnswer, putIn, takenFrom, takeIn, passes, passesOn}
-use Rattle.calls.specs.Calls.{hopFrom, hopIn, calledIn, calledAt, localIn}
+use Rattle.calls.specs.Calls.{atPlace, ofOldest, intoRoom, hopAnswer, putIn, takenFrom, takeIn, hopIn, calledIn}
+use Rattle.calls.specs.Calls.{calledAt, localIn}
 use Rattle.calls.specs.declared.HopAnswer.{HopAnswer}
 use Rattle.calls.specs.declared.TakeAnswer.{TakeAnswer}
+use Rattle.calls.proofs.Lined as lined
+use Rattle.calls.proofs.Lined.{both-refuse, both-do}
 use Rattle.order.specs.Line as line
 use Rattle.order.specs.Flat as flat
-use Rattle.order.specs.Flat.{Flat, putFlat, hopFrom as hopFromFlat, hopFlat}
+use Rattle.order.specs.Flat.{Flat, putFlat, hopFlat}
 use Rattle.order.specs.Flat.{takeFrom as takeFromFlat, takeFlat, callFlat}
 use Rattle.order.specs.History.{listed}
+use Rattle.order.proofs.Flat.{there, gone}
 use Rattle.demands.specs.Histories.{Got, got, if, Local, calledBy, handedOver, acceptedBy, papers}
 
 -- a flat line as a loop, and the loop of a line
@@ -40,11 +41,9 @@ loopFlat x = record { devices = x .states; links = x .links }
 abbrev pub toLoop : line.Loop papers → Loop
 toLoop l = loopFlat (flat.flat l)
 
--- an outcome and what the line came to: both refuse, or both leave the same, and what is answered and what happened
--- agree
-pub data Alike (A B : Type 0) (P : A → B → Type 0) : Outcome A → Option (Flat papers × B) → Type 0 where
-  both-refuse : (k : ℕ) → (k ≡ 0 → ⊥) → Alike A B P (refuse k) none
-  both-do : (r : A) (m : Loop) (x : Flat papers) (b : B) → m ≡ loopFlat x → P r b → Alike A B P (done r m) (some (x, b))
+-- an outcome and what the line came to, as in Lined
+abbrev pub Alike : (A B : Type 0) → (A → B → Type 0) → Outcome A → Option (Flat papers × B) → Type 0
+Alike = lined.Alike (λ d f. handedOver (takes d f .handed)) (λ d c. acceptedBy (calledBy c d))
 
 -- ---- put
 
@@ -80,18 +79,6 @@ take-alike x = go (flat.link x (length (x .states))) refl
     go (f ∷ q) e = both-do _ _ (flat.setLink (length (x .states)) q x) f
         (ap (λ (g : List ℕ). setLink (length (x .states)) (tail g) (loopFlat x)) e) (refl, refl)
 
--- ---- a device by its number
-
-there : {A : Type 0} (xs : List A) (i : ℕ) (d : A) → i < length xs → getElem? xs i ≡ some (getD xs i d)
-there [] i d h = absurd (not-suc-le-zero h)
-there (x ∷ xs) zero d h = refl
-there (x ∷ xs) (suc i) d h = there xs i d (le-of-suc-le-suc h)
-
-gone : {A : Type 0} (xs : List A) (i : ℕ) → length xs ≤ i → getElem? xs i ≡ none
-gone [] i h = refl
-gone (x ∷ xs) zero h = absurd (not-suc-le-zero h)
-gone (x ∷ xs) (suc i) h = gone xs i (le-of-suc-le-suc h)
-
 -- ---- hop
 
 -- the byte in a hop's answer
@@ -106,36 +93,8 @@ hop-tells f handed.Nothing = (refl, refl)
 hop-tells f (handed.Byte b e) = (refl, refl)
 
 pub hop-alike : (i : ℕ) (x : Flat papers) → Alike HopAnswer (Option Got) Hopped (hopIn i (loopFlat x)) (hopFlat x i)
-unfolding hopIn
-hop-alike i x = go (ltb i (length (x .states))) refl
-  where
-    d : Device
-    d = getD (x .states) i (deviceOf [])
-
-    room : (f : ℕ) (q : List ℕ) → flat.link x i ≡ f ∷ q → (t : Bool) → Alike HopAnswer (Option Got) Hopped
-        (intoRoom (passes i f (loopFlat x)) (cond t (Room.Behind (length (flat.link x (suc i)))) Room.Full))
-        (cond t (some (
-          flat.add (suc i) (takes d f .frame) (flat.setLink i q (flat.setState i (takes d f .device) x)),
-          handedOver (takes d f .handed),
-        )) none)
-    room f q e true =
-        both-do _ _ _ _
-        (ap (λ (g : List ℕ). add (suc i) (takes d f .frame)
-        (setLink i (tail g) (setDevice i (takes d f .device) (loopFlat x)))) e)
-        (hop-tells (takes d f .frame) (takes d f .handed))
-    room f q e false = both-refuse 6 (λ z. omega arith)
-
-    from : (q : List ℕ) → flat.link x i ≡ q →
-        Alike HopAnswer (Option Got) Hopped (ofOldest (passesOn i (loopFlat x)) (oldestOf q))
-        (hopFromFlat x i (some d) q)
-    from [] e = both-refuse 5 (λ z. omega arith)
-    from (f ∷ q) e = room f q e (flat.room x (suc i))
-
-    go : (t : Bool) → ltb i (length (x .states)) ≡ t →
-        Alike HopAnswer (Option Got) Hopped (atPlace (hopFrom (loopFlat x)) (cond t (Place.At i) Place.NoDevice))
-        (hopFlat x i)
-    go true e = rw (there (x .states) i (deviceOf []) (ltb-true _ _ e)) (from (flat.link x i) refl)
-    go false e = rw (gone (x .states) i (ltb-false _ _ e)) (both-refuse 3 (λ z. omega arith))
+hop-alike = lined.hop-alike (λ d f. handedOver (takes d f .handed)) (λ d c. acceptedBy (calledBy c d)) Hopped
+    (λ d f. hop-tells (takes d f .frame) (takes d f .handed))
 
 -- ---- local calls
 

@@ -22,7 +22,8 @@ use Rattle.calls.specs.Drain.{onPlace, drainFrom, drainIn}
 use Rattle.calls.specs.declared.HopAnswer.{HopAnswer}
 use Rattle.calls.specs.declared.DrainAnswer.{DrainAnswer}
 use Rattle.calls.proofs.Kept.{hop-keeps}
-use Rattle.calls.proofs.Turns.{IsDone, can-done}
+use Rattle.calls.proofs.Outcomes.{IsDone}
+use Rattle.calls.proofs.Turns.{can-done}
 use Rattle.demands.specs.Calls.{hop, drain, onArea, Answer, hopped, drained, acts, pil, refusalIn}
 use Rattle.demands.specs.Histories.{got, if, handedBy}
 use Rattle.demands.specs.Demands.{Judged}

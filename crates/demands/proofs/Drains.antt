@@ -17,6 +17,7 @@ use Rattle.calls.specs.Drain.{noHopLeft, budgetSpent, hasRoom, canFrom, canHop,
 use Rattle.calls.specs.Drain.{onPlace, drainFrom}
 use Rattle.calls.specs.declared.HopAnswer.{HopAnswer}
 use Rattle.calls.specs.declared.DrainAnswer.{DrainAnswer}
+use Rattle.calls.proofs.Lined.{both-do}
 use Rattle.order.specs.Line as line
 use Rattle.order.specs.Flat as flat
 use Rattle.order.specs.Flat.{Flat}
@@ -24,7 +25,7 @@ use Rattle.order.specs.History.{hopsMade, listed}
 use Rattle.order.proofs.Drain.{greatest-passes}
 use Rattle.order.proofs.Flat.{same-flat}
 use Rattle.demands.specs.Histories.{Got, got, if, papers}
-use Rattle.demands.proofs.Bridge.{loopFlat, toLoop, Alike, both-do, handedIn, hop-alike}
+use Rattle.demands.proofs.Bridge.{loopFlat, toLoop, Alike, handedIn, hop-alike}
 
 -- ---- who hops
 

@@ -18,17 +18,19 @@ use Rattle.record.specs.Sound.{allowed}
 use Rattle.area.specs.Sizes.{areaSize, mostDevices, itemSize}
 use Rattle.area.specs.Parts.{parts, all}
 use Rattle.area.specs.Loop.{countIn, loopOf, areaOf, shaped, sound, device}
-use Rattle.calls.specs.Outcome.{After, after}
+use Rattle.calls.specs.Outcome.{After, after, reads}
 use Rattle.calls.specs.Calls.{noTake, noHop, refusal, putIn, takeIn, hopIn, localIn}
 use Rattle.calls.specs.Drain.{noDrain, drainIn}
+use Rattle.calls.specs.Owed.{noOwed, owedIn}
+use Rattle.calls.specs.declared.OwedAnswer.{OwedAnswer}
 use Rattle.calls.specs.SetUp.{devicesFor, itemsFit, poweredOn, setUpOf}
-use Rattle.demands.specs.Calls.{Byte, numbers, Action, put, hop, take, load, status, wish, drain, Call, onArea}
-use Rattle.demands.specs.Calls.{setUp, decode, encode, Answer, plain, hopped, taken, drained, decoded, encoded}
-use Rattle.demands.specs.Calls.{pil, refusalIn, bare, acts}
+use Rattle.demands.specs.Calls.{Byte, numbers, Action, put, hop, take, load, status, wish, drain, owes, Call}
+use Rattle.demands.specs.Calls.{onArea, setUp, decode, encode, Answer, plain, hopped, taken, drained, owing}
+use Rattle.demands.specs.Calls.{decoded, encoded, pil, refusalIn, bare, acts}
 use Rattle.demands.specs.Conditions.{devicesAt, badC1, BadFrame, lowest}
 use Rattle.demands.specs.Demands.{Demand1}
 use Rattle.demands.proofs.Lengths.{found-at, at-is, shape-is, for-is}
-use Rattle.demands.proofs.Refusals.{Met, call-met, leb-turned, turned-lt}
+use Rattle.demands.proofs.Refusals.{yes, Met, call-met, leb-turned, turned-lt}
 use Rattle.demands.proofs.Tests.{size-is, put-told, take-told, hop-told, local-told, load-refusal}
 use Rattle.demands.proofs.Tests.{status-refusal, wish-refusal, drain-told}
 
@@ -107,6 +109,12 @@ module _ (a : List ℕ) where
             (ap drained (m .refused z .0), m .refused z .1);
       })
 
+  owes-held : Held (onArea owes) a (pil (onArea owes) a) (lowest (onArea owes) a)
+  unfolding rows
+  owes-held =
+      let m = call-met (λ (r : OwedAnswer). r .refusal) noOwed (λ k. refl) a (reads owedIn) 0 (yes _ _ refl) in
+      held owes 0 (record { refused = m .refusal; unchanged = λ z. (ap owing (m .refused z .0), refl) })
+
   action-held : (c : Action) → Held (onArea c) a (pil (onArea c) a) (lowest (onArea c) a)
   action-held (put f) = put-held f
   action-held (hop i) = hop-held i
@@ -115,6 +123,7 @@ module _ (a : List ℕ) where
   action-held (status i s) = status-held i s
   action-held (wish i w) = wish-held i w
   action-held (drain b) = drain-held b
+  action-held owes = owes-held
 
 -- ---- set up: the n of the area's length, found by a division
 

@@ -11,3 +11,4 @@ pub mod Spliced
 pub mod Second
 pub mod Rendered
 pub mod Third
+pub mod Owing

@@ -24,8 +24,8 @@ use Rattle.order.specs.Through.{Rendering, Writing, Every, FairCall, Tells, cal
 use Rattle.order.proofs.Flat.{same-flat}
 use Rattle.order.proofs.Through.{through, read-each, read-total}
 use Rattle.order.proofs.Turns.{calls-each}
-use Rattle.demands.specs.Calls.{Byte, numbers, Action, put, hop, take, load, status, wish, drain, Answer, plain}
-use Rattle.demands.specs.Calls.{hopped, taken, drained, acts}
+use Rattle.demands.specs.Calls.{Byte, numbers, Action, put, hop, take, load, status, wish, drain, owes, Answer}
+use Rattle.demands.specs.Calls.{plain, hopped, taken, drained, acts}
 use Rattle.demands.specs.Histories.{if, history, putBy, takenBy, handedBy, hopsBy, each, total}
 use Rattle.demands.specs.Histories.{areaLeft, framesPut, framesTaken, bytesHanded, hopsMade, toLoad}
 use Rattle.demands.specs.Histories.{toStatus, toWish, papers, calls, allCalls, lineOf, turnsOf, callSeen}
@@ -55,6 +55,7 @@ on-loop-sound (status i x) m s = settle-sound plain refusal m (localIn (λ d. se
     (status-keeps i (x .value) (x .small) m s .sound)
 on-loop-sound (wish i w) m s = settle-sound plain refusal m (localIn (λ d. wishes d w) i m) (wish-keeps i w m s .sound)
 on-loop-sound (drain b) m s = settle-sound drained noDrain m (drainIn b m) (drain-keeps b m s .sound)
+on-loop-sound owes m s = s
 
 -- ---- areas as renderings of lines
 
@@ -102,6 +103,7 @@ fairs (load i bs) = (tt, tt)
 fairs (status i s) = (tt, tt)
 fairs (wish i w) = (tt, tt)
 fairs (drain b) = (tt, tt)
+fairs owes = tt
 
 abbrev pub W : Writing R
 W = record { Fair = λ f. f < frames; write = action; writes = writes; fair = fairs }

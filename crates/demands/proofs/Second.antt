@@ -19,22 +19,25 @@ use Rattle.device.specs.Take.{takes}
 use Rattle.device.specs.declared.Device.{Device}
 use Rattle.area.specs.Sizes.{depth, linkSize, linkAt}
 use Rattle.area.specs.Link.{linkOf}
-use Rattle.area.specs.Loop.{Loop, countIn, size, loopOf, areaOf, device, link}
+use Rattle.area.specs.Loop.{Loop, countIn, size, loopOf, areaOf, judgeOf, device, link}
 use Rattle.area.specs.Lookup.{oldestOf, setDevice, setLink}
 use Rattle.area.proofs.Links.{link-wide}
 use Rattle.area.proofs.Areas.{link-put}
 use Rattle.area.proofs.Laws.{loop-sound}
-use Rattle.calls.specs.Outcome.{done, After, after, callOf}
+use Rattle.calls.specs.Outcome.{done, After, after, callOf, reads}
 use Rattle.calls.specs.Calls.{ofOldest, hopAnswer, sentBy, passed, passesOn, hopIn, hopOf}
+use Rattle.calls.specs.Owed.{noOwed, owedIn}
 use Rattle.calls.specs.declared.HopAnswer.{HopAnswer}
+use Rattle.calls.specs.declared.OwedAnswer.{OwedAnswer}
+use Rattle.calls.proofs.Outcomes.{call-done}
 use Rattle.coding.specs.Coding.{decodedAs, decodeAnswer, encodedAs, encodeAnswer}
 use Rattle.coding.specs.declared.DecodeAnswer.{DecodeAnswer}
 use Rattle.coding.specs.declared.EncodeAnswer.{EncodeAnswer}
 use Rattle.calls.specs.SetUp.{poweredOn}
-use Rattle.demands.specs.Calls.{Byte, numbers, hop, setUp, encode, Answer, plain, hopped, decoded, encoded, acts}
-use Rattle.demands.specs.Calls.{pil}
+use Rattle.demands.specs.Calls.{Byte, numbers, hop, owes, setUp, encode, Answer, plain, hopped, owing, decoded}
+use Rattle.demands.specs.Calls.{encoded, acts, pil}
 use Rattle.demands.specs.Conditions.{devicesAt, lowest}
-use Rattle.demands.specs.Demands.{CanHop, ruled, recordTaken, linkLess, hopLeaves, Demand2}
+use Rattle.demands.specs.Demands.{CanHop, ruled, recordTaken, linkLess, hopLeaves, hopsOwed, Demand2}
 use Rattle.demands.proofs.Tests.{size-is}
 use Rattle.demands.proofs.First.{outside, demand-1, sets-up}
 use Rattle.demands.proofs.ByHops.{drain-hops}
@@ -113,7 +116,11 @@ module _ (i f : ℕ) (fs a : List ℕ) (can : CanHop i f fs a) where
   hop-answers : acts (hop i) a .answer ≡ hopped (hopAnswer (ruled i f a .frame) (ruled i f a .handed))
   hop-answers = ap (λ (o : After HopAnswer). hopped (o .answer)) hop-is
 
--- ---- set up, decoder and encoder
+-- ---- owed, set up, decoder and encoder
+
+owed-told : (a : List ℕ) → judgeOf a ≡ 0 →
+    acts owes a ≡ after (owing (record { hops = hopsOwed a; refusal = 0 })) a
+owed-told a z = ap (λ (o : After OwedAnswer). after (owing (o .answer)) a) (call-done noOwed (reads owedIn) a z)
 
 set-up-leaves : (items : List Byte) (a : List ℕ) → lowest (setUp items) a ≡ 0 →
     pil (setUp items) a ≡ after (plain 0) (areaOf (poweredOn (devicesAt (length a)) (numbers items)))
@@ -148,6 +155,7 @@ demand-2 =
             puts = λ f a j h r. put-leaves a j f h r;
             takes-out = λ f fs a j e. take-leaves a j f fs e;
             local-calls = λ c i a j h z. local-call-leaves a j c i h z;
+            tells-owed = λ a j. owed-told a (j .sound);
             sets-up = set-up-leaves;
             decodes = λ f a h. ap (λ (r : DecodeAnswer). after (decoded r) a) (decode-answers f h);
             encodes = λ k o c a z. ap (λ (r : EncodeAnswer). after (encoded r) a) (encode-answers k o c a z);

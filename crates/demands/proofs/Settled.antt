@@ -12,11 +12,13 @@ use Rattle.frame.specs.Messages.{frames}
 use Rattle.record_local.specs.Local.{loads, setsStatus, wishes}
 use Rattle.area.specs.Loop.{Loop, areaOf, Sound-loop}
 use Rattle.area.proofs.Laws.{loop-back, area-sound}
-use Rattle.calls.specs.Outcome.{Outcome, refuse, done, After, after, afterOf, callOf}
+use Rattle.calls.specs.Outcome.{Outcome, refuse, done, After, after, afterOf, callOf, reads}
 use Rattle.calls.specs.Calls.{refusal, noHop, noTake, putIn, takeIn, hopIn, localIn}
 use Rattle.calls.specs.Drain.{noDrain, drainIn}
+use Rattle.calls.specs.Owed.{noOwed, owedIn}
 use Rattle.calls.specs.declared.HopAnswer.{HopAnswer}
 use Rattle.calls.specs.declared.TakeAnswer.{TakeAnswer}
+use Rattle.calls.proofs.Lined.{both-refuse, both-do}
 use Rattle.order.specs.Line as line
 use Rattle.order.specs.Flat as flat
 use Rattle.order.specs.History as told
@@ -26,11 +28,11 @@ use Rattle.order.proofs.Flat.{same-flat}
 use Rattle.order.proofs.Drain.{none-same, drain-is-hops, drain-stops}
 use Rattle.order.proofs.Through.{each-append}
 use Rattle.order.proofs.Turns.{here, elsewhere}
-use Rattle.demands.specs.Calls.{numbers, Action, put, hop, take, load, status, wish, drain, Answer, plain, hopped}
-use Rattle.demands.specs.Calls.{taken, drained, acts}
+use Rattle.demands.specs.Calls.{numbers, Action, put, hop, take, load, status, wish, drain, owes, Answer, plain}
+use Rattle.demands.specs.Calls.{hopped, taken, drained, owing, acts}
 use Rattle.demands.specs.Histories.{Got, got, if, putBy, takenBy, handedBy, hopsBy, refusedBy, Local, toLoad}
 use Rattle.demands.specs.Histories.{toStatus, toWish, papers, calls, hopSeen, callSeen, turnSeen, isDrain}
-use Rattle.demands.proofs.Bridge.{toLoop, Alike, both-refuse, both-do, handedIn, put-alike, take-alike}
+use Rattle.demands.proofs.Bridge.{toLoop, Alike, handedIn, put-alike, take-alike}
 use Rattle.demands.proofs.Bridge.{hop-alike, local-alike}
 use Rattle.demands.proofs.Drains.{drainAnswer, drained-alike}
 
@@ -49,6 +51,7 @@ onLoop (load i bs) m = settle plain refusal m (localIn (λ d. loads d (numbers b
 onLoop (status i s) m = settle plain refusal m (localIn (λ d. setsStatus d (s .value)) i m)
 onLoop (wish i w) m = settle plain refusal m (localIn (λ d. wishes d w) i m)
 onLoop (drain b) m = settle drained noDrain m (drainIn b m)
+onLoop owes m = (m, owing (owedIn m))
 
 -- an answer and an area are those of a loop and its answer
 abbrev IsOn : After Answer → Loop × Answer → Type 0
@@ -75,6 +78,7 @@ module _ (m : Loop) (s : Sound-loop m) where
   acts-on (status i x) = settled plain refusal (localIn (λ d. setsStatus d (x .value)) i)
   acts-on (wish i w) = settled plain refusal (localIn (λ d. wishes d w) i)
   acts-on (drain b) = settled drained noDrain (drainIn b)
+  acts-on owes = (refl, (settled owing noOwed (reads owedIn)) .1)
 
 -- ---- what is read off an answer is what happened
 
@@ -87,6 +91,7 @@ fair (load i bs) = true
 fair (status i s) = true
 fair (wish i w) = true
 fair (drain b) = true
+fair owes = true
 
 pub record Reads (c : Action) (r : Answer) (es : List (line.Event papers)) : Type 0 where
   pub puts : putBy c r ≡ told.puts es
@@ -392,3 +397,17 @@ follows (wish i w) l =
     (line.callAt l i (toWish w))
     (rw (same-flat papers .same-call l i (toWish w)) at (local-alike (toWish w) i (flat.flat l)))
 follows (drain b) l = drain-follows b l
+follows owes l =
+    record {
+      loop = refl;
+      reads =
+          record {
+            puts = refl;
+            taken = refl;
+            handed = λ i. refl;
+            called = λ i. refl;
+            turned = λ q i. refl;
+            hops = refl;
+            refused = refl;
+          };
+    }

@@ -196,7 +196,7 @@ module _ (a : List ℕ) (items : List Byte) (set : lowest (setUp items) a ≡ 0)
   abbrev n : ℕ
   n = devicesAt (length a)
 
-  abbrev ss : List Device
+  abbrev pub ss : List Device
   ss = map powerOn (itemsOf n (numbers items))
 
   many : length ss ≡ n

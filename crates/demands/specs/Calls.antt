@@ -5,11 +5,13 @@ use mathlib.Core.List.{List, map}
 use Rattle.calls.specs.Outcome.{After, after}
 use Rattle.calls.specs.Calls.{noTake, noHop, putOf, takeOf, hopOf, loadOf, statusOf, wishOf}
 use Rattle.calls.specs.Drain.{noDrain, drainOf}
+use Rattle.calls.specs.Owed.{noOwed, owedOf}
 use Rattle.calls.specs.SetUp.{setUpOf}
 use Rattle.coding.specs.Coding.{noDecoding, decodeAnswer, noEncoding, encodeAnswer}
 use Rattle.calls.specs.declared.HopAnswer.{HopAnswer}
 use Rattle.calls.specs.declared.TakeAnswer.{TakeAnswer}
 use Rattle.calls.specs.declared.DrainAnswer.{DrainAnswer}
+use Rattle.calls.specs.declared.OwedAnswer.{OwedAnswer}
 use Rattle.coding.specs.declared.DecodeAnswer.{DecodeAnswer}
 use Rattle.coding.specs.declared.EncodeAnswer.{EncodeAnswer}
 
@@ -30,6 +32,7 @@ pub data Action : Type 0 where
   status : ℕ → Byte → Action
   wish : ℕ → ℕ → Action
   drain : ℕ → Action
+  owes : Action
 
 -- any exported call
 pub data Call : Type 0 where
@@ -44,6 +47,7 @@ pub data Answer : Type 0 where
   hopped : HopAnswer → Answer
   taken : TakeAnswer → Answer
   drained : DrainAnswer → Answer
+  owing : OwedAnswer → Answer
   decoded : DecodeAnswer → Answer
   encoded : EncodeAnswer → Answer
 
@@ -51,7 +55,7 @@ pub data Answer : Type 0 where
 abbrev pub told : {A : Type 0} → (A → Answer) → After A → After Answer
 told kind o = after (kind (o .answer)) (o .area)
 
--- what a call on an area answers and leaves
+-- what a call on an area answers and leaves; owes is lent its area to read alone
 abbrev pub acts : Action → List ℕ → After Answer
 acts (put f) a = told plain (putOf a f)
 acts (hop i) a = told hopped (hopOf a i)
@@ -60,6 +64,7 @@ acts (load i bs) a = told plain (loadOf a i (numbers bs))
 acts (status i s) a = told plain (statusOf a i (s .value))
 acts (wish i w) a = told plain (wishOf a i w)
 acts (drain b) a = told drained (drainOf a b)
+acts owes a = after (owing (owedOf a)) a
 
 -- what a call answers and leaves; decoder and encoder are lent no area
 abbrev pub pil : Call → List ℕ → After Answer
@@ -74,6 +79,7 @@ refusalIn (plain k) = k
 refusalIn (hopped r) = r .refusal
 refusalIn (taken r) = r .refusal
 refusalIn (drained r) = r .refusal
+refusalIn (owing r) = r .refusal
 refusalIn (decoded r) = r .refusal
 refusalIn (encoded r) = r .refusal
 
@@ -86,6 +92,7 @@ bareAction (load i bs) k = plain k
 bareAction (status i s) k = plain k
 bareAction (wish i w) k = plain k
 bareAction (drain b) k = drained (noDrain k)
+bareAction owes k = owing (noOwed k)
 
 abbrev pub bare : Call → ℕ → Answer
 bare (onArea c) k = bareAction c k

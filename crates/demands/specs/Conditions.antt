@@ -12,8 +12,8 @@ use Rattle.record.specs.Sound.{allowed}
 use Rattle.area.specs.Sizes.{depth, mostDevices, itemSize, areaSize}
 use Rattle.area.specs.Parts.{parts, all}
 use Rattle.area.specs.Loop.{countIn, loopOf, sound, device, link}
-use Rattle.demands.specs.Calls.{numbers, Action, put, hop, take, load, status, wish, drain, Call, onArea, setUp}
-use Rattle.demands.specs.Calls.{decode, encode}
+use Rattle.demands.specs.Calls.{numbers, Action, put, hop, take, load, status, wish, drain, owes, Call, onArea}
+use Rattle.demands.specs.Calls.{setUp, decode, encode}
 
 -- the number of devices, n at most, whose area has this length; 0 if there is none
 abbrev pub devicesUpTo : ℕ → ℕ → ℕ
@@ -48,6 +48,7 @@ NoDevice (load i bs) a = leb (countIn a) i
 NoDevice (status i s) a = leb (countIn a) i
 NoDevice (wish i w) a = leb (countIn a) i
 NoDevice (drain b) a = false
+NoDevice owes a = false
 
 -- a C1 that is not 0 or 1, or 1 on a kind without one
 abbrev pub badC1 : ℕ → ℕ → Bool
@@ -62,6 +63,7 @@ BadFrame (onArea (load i bs)) = false
 BadFrame (onArea (status i s)) = false
 BadFrame (onArea (wish i w)) = false
 BadFrame (onArea (drain b)) = false
+BadFrame (onArea owes) = false
 BadFrame (setUp items) = false
 BadFrame (decode f) = leb frames f
 BadFrame (encode k o c) = leb (offsetsOf k) o || badC1 k c
@@ -82,6 +84,7 @@ Empty (load i bs) a = false
 Empty (status i s) a = false
 Empty (wish i w) a = false
 Empty (drain b) a = false
+Empty owes a = false
 
 -- 6, Full: the link to add to holds four
 abbrev pub Full : Action → List ℕ → Bool
@@ -92,6 +95,7 @@ Full (load i bs) a = false
 Full (status i s) a = false
 Full (wish i w) a = false
 Full (drain b) a = false
+Full owes a = false
 
 -- device i lacks an ability
 abbrev pub lacks : ℕ → ℕ → List ℕ → Bool
@@ -106,6 +110,7 @@ NoAbility (load i bs) a = lacks i sendData a
 NoAbility (status i s) a = lacks i sendStatus a
 NoAbility (wish i w) a = lacks i serviceRequest a
 NoAbility (drain b) a = false
+NoAbility owes a = false
 
 -- 8, TooLong: load over 32 bytes
 abbrev pub TooLong : Action → Bool
@@ -116,6 +121,7 @@ TooLong (load i bs) = ltb mostData (length (numbers bs))
 TooLong (status i s) = false
 TooLong (wish i w) = false
 TooLong (drain b) = false
+TooLong owes = false
 
 -- 9, Busy: load in talker state 2
 abbrev pub Busy : Action → List ℕ → Bool
@@ -126,6 +132,7 @@ Busy (load i bs) a = eqb (device (loopOf a) i .talker) sendingData
 Busy (status i s) a = false
 Busy (wish i w) a = false
 Busy (drain b) a = false
+Busy owes a = false
 
 -- an action's condition, and no other call's
 abbrev pub ofAction : (Action → List ℕ → Bool) → Call → List ℕ → Bool

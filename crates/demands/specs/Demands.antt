@@ -1,9 +1,10 @@
--- The three demands on the model, over the very definitions that the contracts of the exported functions cite.
+-- The three demands on the model, and what 02, k, asks of the hops owed, over the very definitions that the contracts
+-- of the exported functions cite.
 -- It leans on Calls, Conditions, Drains, Histories (the crate teeth says what it shuts out); frame's Messages,
 -- Decoding, Coding, Laws; coding's Coding; device's Sent, and Take with the rules that it names; record_local's Local;
--- record's Record, Parts, Sound, Fits; area's Sizes, Parts, Link, Loop, Lookup; calls' Outcome, Calls, Drain, SetUp;
--- order's Line, Flat, History, RightRound, Through, which have names of their own.
-use Prim.Native.Nat.{ℕ, suc, _+_, _*_, _<_}
+-- record's Record, Parts, Sound, Fits; area's Sizes, Parts, Link, Loop, Lookup; calls' Outcome, Calls, Drain, SetUp,
+-- Owed; order's Line, Flat, History, RightRound, Through, Owed, which have names of their own.
+use Prim.Native.Nat.{ℕ, suc, _+_, _*_, _≤_, _<_}
 use mathlib.Core.Path.{_≡_}
 use mathlib.Core.List.{List, [], _∷_, _++_, tail}
 use lib.ListN.{length}
@@ -22,12 +23,14 @@ use Rattle.calls.specs.Outcome.{After, after}
 use Rattle.calls.specs.Calls.{hopAnswer}
 use Rattle.calls.specs.SetUp.{poweredOn}
 use Rattle.order.specs.History.{callsIn, hopsIn, sumOver}
-use Rattle.demands.specs.Calls.{Byte, numbers, Action, put, hop, take, drain, Call, onArea, setUp, decode, encode}
-use Rattle.demands.specs.Calls.{Answer, plain, hopped, taken, decoded, encoded, pil, refusalIn, bare}
+use Rattle.order.specs.Owed.{owed}
+use Rattle.demands.specs.Calls.{Byte, numbers, Action, put, hop, take, drain, owes, Call, onArea, setUp, decode}
+use Rattle.demands.specs.Calls.{encode, Answer, plain, hopped, taken, owing, decoded, encoded, pil, refusalIn}
+use Rattle.demands.specs.Calls.{bare}
 use Rattle.demands.specs.Conditions.{devicesAt, lowest}
 use Rattle.demands.specs.Drains.{byHops}
-use Rattle.demands.specs.Histories.{areaLeft, framesPut, framesTaken, bytesHanded, hopsMade, callsRefused, Local}
-use Rattle.demands.specs.Histories.{calledBy, localCall, turnsOf, Drainless, turnsSeen, callsSeen, inTurn}
+use Rattle.demands.specs.Histories.{areaLeft, framesPut, framesTaken, bytesHanded, hopsBy, hopsMade, callsRefused}
+use Rattle.demands.specs.Histories.{Local, calledBy, localCall, turnsOf, Drainless, turnsSeen, callsSeen, inTurn}
 
 -- ---- Demand 1: every call is refused exactly by the table
 
@@ -73,6 +76,10 @@ module _ (i f : ℕ) (a : List ℕ) where
   abbrev pub hopLeaves : List ℕ
   hopLeaves = splice (linkAt (countIn a) (suc i)) (linkOf (link (loopOf a) (suc i) ++ (ruled .frame ∷ []))) linkLess
 
+-- the hops that an area owes: for every frame in a link the devices ahead of it, summed
+abbrev pub hopsOwed : List ℕ → ℕ
+hopsOwed a = owed (loopOf a .links)
+
 -- A model of the calls:
 pub record Obeys (model : Call → List ℕ → After Answer) : Type 0 where
   -- a hop leaves that area,
@@ -95,10 +102,13 @@ pub record Obeys (model : Call → List ℕ → After Answer) : Type 0 where
       calledBy c (device (loopOf a) i) .refusal ≡ 0 →
       model (onArea (localCall i c)) a ≡ after (plain 0)
       (splice (recordAt i) (recordOf (calledBy c (device (loopOf a) i) .device)) a)
+  -- asked for the hops owed it answers them, and no byte changes;
+  pub tells-owed : (a : List ℕ) → Judged a →
+      model (onArea owes) a ≡ after (owing (record { hops = hopsOwed a; refusal = 0 })) a
   -- a set-up that is not refused leaves power-on devices and empty links;
   pub sets-up : (items : List Byte) (a : List ℕ) → lowest (setUp items) a ≡ 0 →
       model (setUp items) a ≡ after (plain 0) (areaOf (poweredOn (devicesAt (length a)) (numbers items)))
-  -- the decoder answers a frame's kind, offset and C1, and the encoder, where it is not refused, the frame of the three.
+  -- the decoder answers a frame's kind, offset and C1, and the encoder, where it is not refused, the frame of these.
   pub decodes : (f : ℕ) (a : List ℕ) → f < frames →
       let m = decoding f in
       model (decode f) a ≡ after (decoded (record { offset = m .offset; refusal = 0; kind = m .kind; c1 = m .c1 })) a
@@ -162,3 +172,65 @@ Agreement = (a : List ℕ) (items : List Byte) (cs ds : List Action) → lowest 
     ((i : ℕ) → turnsOf x cs i ≡ turnsOf x ds i) →
     (areaLeft x cs ≡ areaLeft x ds) × (framesTaken x cs ≡ framesTaken x ds) ×
     ((i : ℕ) → bytesHanded x cs i ≡ bytesHanded x ds i) × (hopsMade x cs ≡ hopsMade x ds)
+
+-- ---- Hops owed (02, k). What calls leave of them, for any bytes as the area:
+
+-- an accepted hop lowers them by one,
+abbrev pub OwedAfterHop : Type 0
+OwedAfterHop = (i : ℕ) (a : List ℕ) → Bytes a → refusalIn (pil (onArea (hop i)) a .answer) ≡ 0 →
+    hopsOwed (pil (onArea (hop i)) a .area) + 1 ≡ hopsOwed a
+
+-- a drain by the hops that it answers,
+abbrev pub OwedAfterDrain : Type 0
+OwedAfterDrain = (b : ℕ) (a : List ℕ) → Bytes a →
+    hopsOwed (pil (onArea (drain b)) a .area) + hopsBy (drain b) (pil (onArea (drain b)) a .answer) ≡ hopsOwed a
+
+-- an accepted put adds one for each of the n devices,
+abbrev pub OwedAfterPut : Type 0
+OwedAfterPut = (f : ℕ) (a : List ℕ) → Bytes a → refusalIn (pil (onArea (put f)) a .answer) ≡ 0 →
+    hopsOwed (pil (onArea (put f)) a .area) ≡ hopsOwed a + countIn a
+
+-- a take, a local call and every refused call leave them,
+abbrev pub OwedAfterTake : Type 0
+OwedAfterTake = (a : List ℕ) → Bytes a → hopsOwed (pil (onArea take) a .area) ≡ hopsOwed a
+
+abbrev pub OwedAfterLocalCall : Type 0
+OwedAfterLocalCall = (c : Local) (i : ℕ) (a : List ℕ) → Bytes a →
+    hopsOwed (pil (onArea (localCall i c)) a .area) ≡ hopsOwed a
+
+abbrev pub OwedAfterRefusal : Type 0
+OwedAfterRefusal = (c : Call) (a : List ℕ) → (refusalIn (pil c a .answer) ≡ 0 → ⊥) →
+    hopsOwed (pil c a .area) ≡ hopsOwed a
+
+-- and an accepted set-up leaves none.
+abbrev pub OwedAfterSetUp : Type 0
+OwedAfterSetUp = (items : List Byte) (a : List ℕ) → lowest (setUp items) a ≡ 0 →
+    hopsOwed (pil (setUp items) a .area) ≡ 0
+
+-- They are answered after any history from an area that has no refusal, since it still has none.
+abbrev pub StaysJudged : Type 0
+StaysJudged = (a : List ℕ) (cs : List Action) → Judged a → Judged (areaLeft a cs)
+
+-- They are never more than 2n(n + 1).
+abbrev pub OwedAtMost : Type 0
+OwedAtMost = (a : List ℕ) → Judged a → hopsOwed a ≤ 2 * (countIn a * (countIn a + 1))
+
+-- Over any history, refused calls among it: the hops made, drains' included, and those owed then are those owed at
+-- first and n for each frame put. A history has no set-up in it.
+abbrev pub OwedOver : Type 0
+OwedOver = (a : List ℕ) (cs : List Action) → Judged a →
+    hopsMade a cs + hopsOwed (areaLeft a cs) ≡ hopsOwed a + length (framesPut a cs) * countIn a
+
+-- So where no put is accepted the hops made are at most 2n(n + 1), however many takes there are.
+abbrev pub HopsAtMost : Type 0
+HopsAtMost = (a : List ℕ) (cs : List Action) → Judged a → framesPut a cs ≡ [] →
+    hopsMade a cs ≤ 2 * (countIn a * (countIn a + 1))
+
+-- Some hop or the take is accepted
+pub data Progress (a : List ℕ) : Type 0 where
+  hop-accepted : (i : ℕ) → refusalIn (pil (onArea (hop i)) a .answer) ≡ 0 → Progress a
+  take-accepted : refusalIn (pil (onArea take) a .answer) ≡ 0 → Progress a
+
+-- while any link holds a frame.
+abbrev pub NeverStuck : Type 0
+NeverStuck = (a : List ℕ) (j : ℕ) → Judged a → (link (loopOf a) j ≡ [] → ⊥) → Progress a

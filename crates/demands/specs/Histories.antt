@@ -20,8 +20,8 @@ use Rattle.order.specs.Flat.{lineUp}
 use Rattle.order.specs.History.{Turn, hops, does, turns}
 use Rattle.order.specs.RightRound.{first, rightRound}
 use Rattle.order.specs.Through.{Every}
-use Rattle.demands.specs.Calls.{Byte, numbers, Action, put, hop, take, load, status, wish, drain, Answer, plain}
-use Rattle.demands.specs.Calls.{hopped, taken, drained, decoded, encoded, acts, refusalIn}
+use Rattle.demands.specs.Calls.{Byte, numbers, Action, put, hop, take, load, status, wish, drain, owes, Answer}
+use Rattle.demands.specs.Calls.{plain, hopped, taken, drained, owing, decoded, encoded, acts, refusalIn}
 
 -- ---- A history: one call after the other. The area that it leaves, and the answers
 
@@ -52,6 +52,7 @@ putBy (load i bs) r = []
 putBy (status i s) r = []
 putBy (wish i w) r = []
 putBy (drain b) r = []
+putBy owes r = []
 
 -- the frame that a take gave
 abbrev pub takenBy : Action → Answer → List ℕ
@@ -59,6 +60,7 @@ takenBy c (plain k) = []
 takenBy c (hopped r) = []
 takenBy c (taken r) = if (eqb (r .refusal) 0) (r .frame)
 takenBy c (drained r) = []
+takenBy c (owing r) = []
 takenBy c (decoded r) = []
 takenBy c (encoded r) = []
 
@@ -71,6 +73,7 @@ hopper (load i bs) = 0
 hopper (status i s) = 0
 hopper (wish i w) = 0
 hopper (drain b) = 0
+hopper owes = 0
 
 -- the byte handed to device i, by a hop or at the end of a drain
 abbrev pub handedBy : ℕ → Action → Answer → List Got
@@ -78,6 +81,7 @@ handedBy i c (plain k) = []
 handedBy i c (hopped r) = if (eqb i (hopper c) && eqb (r .handed) 1) (got (r .byte) (r .end))
 handedBy i c (taken r) = []
 handedBy i c (drained r) = if (eqb i (r .device) && eqb (r .reason) 2) (got (r .byte) (r .end))
+handedBy i c (owing r) = []
 handedBy i c (decoded r) = []
 handedBy i c (encoded r) = []
 
@@ -87,6 +91,7 @@ hopsBy c (plain k) = 0
 hopsBy c (hopped r) = cond (eqb (r .refusal) 0) 1 0
 hopsBy c (taken r) = 0
 hopsBy c (drained r) = r .hops
+hopsBy c (owing r) = 0
 hopsBy c (decoded r) = 0
 hopsBy c (encoded r) = 0
 
@@ -170,7 +175,7 @@ papers =
       deep = lit< tt;
     }
 
--- the call of the line that an action is; a put of what is no frame is none
+-- the call of the line that an action is; a put of what is no frame is none, and so is what only reads
 abbrev pub calls : Action → List (line.Call papers)
 calls (put f) = if (ltb f frames) (line.put f)
 calls (hop i) = line.hop i ∷ []
@@ -179,6 +184,7 @@ calls (load i bs) = line.local i (toLoad bs) ∷ []
 calls (status i s) = line.local i (toStatus s) ∷ []
 calls (wish i w) = line.local i (toWish w) ∷ []
 calls (drain b) = line.drain b ∷ []
+calls owes = []
 
 abbrev pub allCalls : List Action → List (line.Call papers)
 allCalls [] = []
@@ -203,6 +209,7 @@ hopSeen i (load j bs) r = []
 hopSeen i (status j s) r = []
 hopSeen i (wish j w) r = []
 hopSeen i (drain b) r = []
+hopSeen i owes r = []
 
 -- the local call that device i accepted
 abbrev pub callSeen : ℕ → Action → Answer → List Local
@@ -213,6 +220,7 @@ callSeen i (load j bs) r = if (eqb i j && eqb (refusalIn r) 0) (toLoad bs)
 callSeen i (status j s) r = if (eqb i j && eqb (refusalIn r) 0) (toStatus s)
 callSeen i (wish j w) r = if (eqb i j && eqb (refusalIn r) 0) (toWish w)
 callSeen i (drain b) r = []
+callSeen i owes r = []
 
 -- the turn of device i
 abbrev pub turnSeen : ℕ → Action → Answer → List (Turn papers)
@@ -226,6 +234,7 @@ isDrain (load i bs) = false
 isDrain (status i s) = false
 isDrain (wish i w) = false
 isDrain (drain b) = true
+isDrain owes = false
 
 -- no call of a history is a drain
 abbrev pub Drainless : List Action → Type 0

@@ -8,7 +8,9 @@ use lib.Dec.{ltb, lit<}
 use Rattle.order.specs.Line.{Line, Loop, tail, cell, idle, Call, put, hop, take, local, drain, Event, run}
 use Rattle.order.specs.Line.{no-hop, spent, handing, draining}
 use Rattle.order.specs.History.{hops, does, puts, taken, handed, turns, hopsMade, refusals}
-use Rattle.order.specs.RightRound.{first, rightRound, oneByOne, owed}
+use Rattle.order.specs.RightRound.{first, rightRound, oneByOne}
+use Rattle.order.specs.Flat.{linksOf}
+use Rattle.order.specs.Owed.{owed}
 
 -- A state is a sum. A hop adds the frame to it, sends the sum and hands over a frame above 7. A local call adds less
 -- than ten.
@@ -81,7 +83,7 @@ loaded-first : oneByOne loaded (6 ∷ []) ((hops ∷ hops ∷ []) ∷ (hops ∷ 
     ∷ put 6 ∷ hop 0 ∷ hop 1 ∷ take ∷ []
 loaded-first = refl
 
-loaded-owes : owed loaded ≡ 3
+loaded-owes : owed (linksOf loaded) ≡ 3
 loaded-owes = refl
 
 -- ---- Why a drain stops

@@ -1,12 +1,13 @@
 -- Each call by numbers is the call on the line, device after device: with one more link and device in front every
 -- number is one greater and nothing else changes.
-use Prim.Native.Nat.{ℕ, zero, suc, _<_}
+use Prim.Native.Nat.{ℕ, zero, suc, _≤_, _<_}
 use native.Mathlib.Omega.{arith}
+use native.Mathlib.Nat.{not-suc-le-zero, le-of-suc-le-suc}
 use mathlib.Core.Path.{_≡_, refl, sym, _∙_, ap}
 use mathlib.Core.Bool.{Bool, true, false, cond}
 use mathlib.Core.Option.{Option, none, some, Option·map}
 use mathlib.Core.List.{List, [], _∷_, _++_}
-use lib.ListN.{length, getElem?}
+use lib.ListN.{length, getD, getElem?}
 use lib.Dec.{ltb}
 use Rattle.order.specs.Line.{Line, Loop, tail, cell, devices, push, hopAt, takeOut, callAt, accepts, greatest}
 use Rattle.order.specs.Line.{canHop, highest}
@@ -42,6 +43,17 @@ cond-accepts false x = refl
 greatest-same : (p q : ℕ → Bool) (n : ℕ) → ((i : ℕ) → i < n → p i ≡ q i) → greatest p n ≡ greatest q n
 greatest-same p q zero e = refl
 greatest-same p q (suc n) e = rw (e n (omega arith), greatest-same p q n (λ i h. e i (omega arith)))
+
+-- an entry by its number, if there are so many
+pub there : {A : Type 0} (xs : List A) (i : ℕ) (d : A) → i < length xs → getElem? xs i ≡ some (getD xs i d)
+there [] i d h = absurd (not-suc-le-zero h)
+there (x ∷ xs) zero d h = refl
+there (x ∷ xs) (suc i) d h = there xs i d (le-of-suc-le-suc h)
+
+pub gone : {A : Type 0} (xs : List A) (i : ℕ) → length xs ≤ i → getElem? xs i ≡ none
+gone [] i h = refl
+gone (x ∷ xs) zero h = absurd (not-suc-le-zero h)
+gone (x ∷ xs) (suc i) h = gone xs i (le-of-suc-le-suc h)
 
 module _ {L : Line} where
   open Line L using (State, Frame, Local, Byte, next, send, hand, act, depth)
@@ -120,6 +132,10 @@ module _ {L : Line} where
   flat-devices : (l : Loop L) → length (statesOf l) ≡ devices l
   flat-devices (tail q) = refl
   flat-devices (cell q s r) = ap suc (flat-devices r)
+
+  pub links-long : (l : Loop L) → length (linksOf l) ≡ suc (devices l)
+  links-long (tail q) = refl
+  links-long (cell q s r) = ap suc (links-long r)
 
   push-accepts : (r : Loop L) (f : Frame) → accepts (push r f) ≡ room (flat r) 0
   push-accepts (tail q) f = cond-accepts (ltb (length q) depth) (tail (q ++ f ∷ []))

@@ -8,8 +8,8 @@ use mathlib.Core.List.{List, [], _∷_}
 use lib.ListN.{length}
 use lib.Dec.{T, ltb, lt→ltb}
 use Rattle.order.specs.Line.{Line, Loop, tail, cell, idle, devices, push}
-use Rattle.order.specs.Flat.{statesOf}
-use Rattle.order.specs.RightRound.{owed}
+use Rattle.order.specs.Flat.{linksOf, statesOf}
+use Rattle.order.specs.Owed.{owed}
 
 has-room : {A : Type 0} (b : Bool) → T b → (x : A) → cond b (some x) none ≡ some x
 has-room true u x = refl
@@ -38,7 +38,7 @@ module _ (L : Line) where
   idle-empty [] = refl
   idle-empty (s ∷ ss) = (refl, idle-empty ss)
 
-  pub idle-owed : (ss : List State) → owed {L = L} (idle ss) ≡ 0
+  pub idle-owed : (ss : List State) → owed (linksOf {L = L} (idle ss)) ≡ 0
   idle-owed [] = refl
   idle-owed (s ∷ ss) = omega (arith, idle-owed ss)
 

@@ -5,11 +5,12 @@ use mathlib.Core.Path.{_≡_, sym, _∙_, ap}
 use mathlib.Core.List.{List}
 use Rattle.order.specs.Line.{Line, Loop, idle, Call, Event, run}
 use Rattle.order.specs.History.{puts, turns}
-use Rattle.order.specs.Order.{SameAs, AnyOrder, FromAnyLoop, Agree, Owed}
+use Rattle.order.specs.Order.{SameAs, AnyOrder, FromAnyLoop, Agree}
 use Rattle.order.specs.Flat.{statesOf}
 use Rattle.order.proofs.Streams.{Steps, run-ok, steps-flows, steps-count}
 use Rattle.order.proofs.Idle.{idle-empty, idle-owed, idle-devices, idle-states}
 use Rattle.order.proofs.Agree.{two-ways}
+use Rattle.order.proofs.Owed.{owed-law}
 use Rattle.order.proofs.Rounds.{Reference, rounds, all-rounds}
 
 module _ (L : Line) where
@@ -18,16 +19,13 @@ module _ (L : Line) where
   steps-of : {l l′ : Loop L} {es : List (Event L)} (cs : List (Call L)) → run l cs ≡ (l′, es) → Steps l es l′
   steps-of {l = l} cs e = rw e at (run-ok l cs)
 
-  pub owed-law : Owed L
-  owed-law l l′ cs es e = steps-count (steps-of cs e)
-
   pub agree : Agree L
   agree l ss₁ ss₂ cs₁ cs₂ es₁ es₂ e₁ e₂ p t =
       let u = two-ways (steps-of cs₁ e₁) (steps-of cs₂ e₂) (idle-empty L ss₁) (idle-empty L ss₂) p t in (
         sym (idle-states L ss₁) ∙ ap (λ l. statesOf l) (u .0) ∙ idle-states L ss₂,
         u .1,
         u .2,
-        omega (arith, rw p at (owed-law _ _ cs₁ es₁ e₁), owed-law _ _ cs₂ es₂ e₂, idle-owed L ss₁, idle-owed L ss₂),
+        omega (arith, rw p at (owed-law L _ _ cs₁ es₁ e₁), owed-law L _ _ cs₂ es₂ e₂, idle-owed L ss₁, idle-owed L ss₂),
       )
 
   same-as : {l : Loop L} {ref : List (Call L)} {es : List (Event L)} (ss′ : List State) → Steps l es (idle ss′)

@@ -14,8 +14,10 @@ use Rattle.order.specs.Line.{called}
 use Rattle.order.specs.Line.{reply, answer, run}
 use Rattle.order.specs.History.{Turn, hops, does, listed, putBy, takenBy, handedBy, turnBy, hopBy}
 use Rattle.order.specs.History.{puts, taken, handed, turns, hopsMade}
-use Rattle.order.specs.RightRound.{owed}
+use Rattle.order.specs.Flat.{linksOf}
+use Rattle.order.specs.Owed.{owed}
 use Rattle.order.proofs.Drain.{drain-is-hops}
+use Rattle.order.proofs.Flat.{links-long}
 
 joins : {A : Type 0} (q X X′ o o′ q′ q″ : List A) → q ++ X ≡ o ++ q′ → q′ ++ X′ ≡ o′ ++ q″
     → q ++ (X ++ X′) ≡ (o ++ o′) ++ q″
@@ -72,7 +74,7 @@ module _ {L : Line} where
   -- n hops take l to l′: the streams are as above, and the hops owed are fewer by n, but for the frames X
   pub record Moved (T : ℕ → List (Turn L)) (G : ℕ → List Byte) (o X : List Frame) (n : ℕ) (l l′ : Loop L) : Type 0 where
     pub flows : Flows T G o X l l′
-    pub count : n + owed l′ ≡ owed l + length X * devices l
+    pub count : n + owed (linksOf l′) ≡ owed (linksOf l) + length X * devices l
 
   -- what an event does to the loop
   abbrev pub Step : Loop L → Event L → Loop L → Type 0
@@ -82,9 +84,9 @@ module _ {L : Line} where
   in-front : {T : ℕ → List (Turn L)} {G : ℕ → List Byte} {o : List Frame} {n : ℕ} {r r′ : Loop L} (q : List Frame)
       (s : State) → Ran s (T 0) [] s [] (G 0) → Moved (λ k. T (suc k)) (λ k. G (suc k)) o [] n r r′
       → Moved T G o [] n (cell q s r) (cell q s r′)
-  in-front q s a u = record {
+  in-front {r = r} {r′ = r′} q s a u = record {
     flows = at-cell [] [] (append-nil q) a (u .flows);
-    count = rw (← same-devices (u .flows)) (omega (arith, u .count));
+    count = rw (links-long r, links-long r′, ← same-devices (u .flows)) (omega (arith, u .count));
   }
 
   abbrev pub AfterPush : Loop L → Frame → Option (Loop L) → Type 0
@@ -100,7 +102,10 @@ module _ {L : Line} where
   push-ok (cell q s r) f = go (ltb (length q) depth)
     where
       go : (b : Bool) → AfterPush (cell q s r) f (cond b (some (cell (q ++ f ∷ []) s r)) none)
-      go true = record { flows = at-cell [] [] refl stays (flows-refl r); count = simp length-append (omega arith) }
+      go true = record {
+        flows = at-cell [] [] refl stays (flows-refl r);
+        count = rw (links-long r) (simp length-append (omega arith));
+      }
       go false = tt
 
   abbrev pub AfterHop : Loop L → ℕ → Option (Loop L × Option Byte) → Type 0
@@ -127,7 +132,7 @@ module _ {L : Line} where
       go (some r′) u = record {
         flows =
             at-cell (f ∷ []) (send s f ∷ []) (ap (λ (x : List Frame). f ∷ x) (append-nil q)) (one-hop s f) (u .flows);
-        count = rw (← same-devices (u .flows)) (omega (arith, u .count));
+        count = rw (links-long r, links-long r′, ← same-devices (u .flows)) (omega (arith, u .count));
       }
 
   abbrev pub AfterTake : Loop L → Option (Loop L × Frame) → Type 0
@@ -229,7 +234,7 @@ module _ {L : Line} where
 
   -- every hop pays one of the hops owed
   pub steps-count : {l l′ : Loop L} {es : List (Event L)} → Steps l es l′
-      → hopsMade es + owed l′ ≡ owed l + length (puts es) * devices l
+      → hopsMade es + owed (linksOf l′) ≡ owed (linksOf l) + length (puts es) * devices l
   steps-count no-step = omega arith
   steps-count (a-step x a) =
       simp length-append (omega (arith, x .count, rw (← same-devices (x .flows)) at (steps-count a)))

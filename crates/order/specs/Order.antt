@@ -1,16 +1,17 @@
 -- The theorems: the order of the calls does not matter (demand 3), whatever the devices do with a frame. That local
 -- calls stay at the same places among a device's own hops is said by its turns (History.antt).
-use Prim.Native.Nat.{ℕ, suc, _+_, _*_, _≤_}
+use Prim.Native.Nat.{ℕ, _+_, _*_, _≤_}
 use mathlib.Core.Path.{_≡_}
-use mathlib.Core.Bool.{true, false}
-use mathlib.Core.Option.{Option, none, some}
+use mathlib.Core.Bool.{true}
+use mathlib.Core.Option.{none, some}
 use mathlib.Core.List.{List, [], _∷_, _++_, map}
 use lib.ListN.{length}
-use Rattle.order.specs.Line.{Line, Loop, tail, cell, idle, devices, push, hopAt, takeOut, callAt, accepts}
-use Rattle.order.specs.Line.{highest, Call, hop, Event, hopped, Stop, no-hop, spent, handing, draining, run}
-use Rattle.order.specs.Flat.{statesOf}
+use Rattle.order.specs.Line.{Line, Loop, idle, devices, accepts, highest, Call, hop, Event, hopped, Stop}
+use Rattle.order.specs.Line.{no-hop, spent, handing, draining, run}
+use Rattle.order.specs.Flat.{linksOf}
 use Rattle.order.specs.History.{ifSame, sumOver, hopsIn, puts, taken, handed, turns, hopsMade, refusals}
-use Rattle.order.specs.RightRound.{first, rightRound, oneByOne, owed}
+use Rattle.order.specs.RightRound.{first, rightRound, oneByOne}
+use Rattle.order.specs.Owed.{owed}
 
 -- The calls ref on l come to the same as a history on l that left l′ and in which es happened:
 pub record SameAs {L : Line} (l : Loop L) (ref : List (Call L)) (l′ : Loop L) (es : List (Event L)) : Type 0 where
@@ -27,7 +28,7 @@ pub record SameAs {L : Line} (l : Loop L) (ref : List (Call L)) (l′ : Loop L) 
   pub same-handed : (i : ℕ) → handed events i ≡ handed es i
 
 module _ (L : Line) where
-  open Line L using (State, Frame, Local, Byte, depth)
+  open Line L using (State, Byte)
 
   -- ---- Demand 3
 
@@ -43,7 +44,7 @@ module _ (L : Line) where
   abbrev pub FromAnyLoop : Type 0
   FromAnyLoop = (l : Loop L) (ss′ : List State) (cs : List (Call L)) (es : List (Event L)) → run l cs ≡ (idle ss′, es)
       → SameAs l (oneByOne l (puts es) (first (devices l) (turns es))) (idle ss′) es
-      × (hopsMade es ≡ owed l + length (puts es) * devices l)
+      × (hopsMade es ≡ owed (linksOf l) + length (puts es) * devices l)
 
   -- Two histories from one loop that put the same frames, give each device the same turns and leave all links empty
   -- agree: in the devices, the frames taken out, the bytes handed to each device and the number of hops.
@@ -57,35 +58,6 @@ module _ (L : Line) where
   abbrev pub TurnsAddUp : Type 0
   TurnsAddUp = (l l′ : Loop L) (cs : List (Call L)) (es : List (Event L)) → run l cs ≡ (l′, es)
       → sumOver (devices l) (λ i. hopsIn (turns es i)) ≡ hopsMade es
-
-  -- ---- Hops owed
-
-  -- An accepted put adds a hop for every device; an accepted hop pays one; takes and local calls change nothing.
-  pub record OwedBy : Type 0 where
-    pub by-put : (l l′ : Loop L) (f : Frame) → push l f ≡ some l′ → owed l′ ≡ owed l + devices l
-    pub by-hop : (l l′ : Loop L) (i : ℕ) (h : Option Byte) → hopAt l i ≡ some (l′, h) → suc (owed l′) ≡ owed l
-    pub by-take : (l l′ : Loop L) (f : Frame) → takeOut l ≡ some (l′, f) → owed l′ ≡ owed l
-    pub by-call : (l l′ : Loop L) (i : ℕ) (c : Local) → callAt l i c ≡ some l′ → owed l′ ≡ owed l
-
-  -- So after any history, its links empty or not: hops made and hops still owed are those owed at first, and one for
-  -- every device for each frame put.
-  abbrev pub Owed : Type 0
-  Owed = (l l′ : Loop L) (cs : List (Call L)) (es : List (Event L)) → run l cs ≡ (l′, es)
-      → hopsMade es + owed l′ ≡ owed l + length (puts es) * devices l
-
-  -- each link holds as many frames as it can, or fewer
-  abbrev pub Within : Loop L → Type 0
-  Within (tail q) = length q ≤ depth
-  Within (cell q s r) = (length q ≤ depth) × Within r
-
-  -- With n devices, depth times n (n + 1) / 2 hops are owed at most.
-  abbrev pub OwedAtMost : Type 0
-  OwedAtMost = (l : Loop L) → Within l → 2 * owed l ≤ depth * (devices l * suc (devices l))
-
-  -- While a link holds a frame, some hop or take is accepted: if all are refused, all links are empty.
-  abbrev pub NeverStuck : Type 0
-  NeverStuck = (l : Loop L) → ((i : ℕ) → accepts (hopAt l i) ≡ false) → accepts (takeOut l) ≡ false
-      → l ≡ idle (statesOf l)
 
   -- ---- The drain
 

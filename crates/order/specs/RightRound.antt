@@ -1,9 +1,9 @@
 -- The history that every other is held to: each frame goes right round before the next, and each device has the turns
 -- that it is to have. It is a list of calls like any other.
-use Prim.Native.Nat.{ℕ, zero, suc, _+_, _*_}
+use Prim.Native.Nat.{ℕ, zero, suc}
 use mathlib.Core.List.{List, [], _∷_, _++_, map}
 use lib.ListN.{length}
-use Rattle.order.specs.Line.{Line, Loop, tail, cell, devices, Call, put, hop, take, local}
+use Rattle.order.specs.Line.{Line, Loop, tail, cell, Call, put, hop, take, local}
 use Rattle.order.specs.History.{Turn, hops, does}
 
 module _ {L : Line} where
@@ -77,10 +77,3 @@ module _ {L : Line} where
   -- First the frames in the links, then the frames put, each right round.
   abbrev pub oneByOne : Loop L → List Frame → List (List (Turn L)) → List (Call L)
   oneByOne l fs ts = clear 0 l ts ++ rightRound fs (leftAfter l ts)
-
-  -- ---- Hops owed
-
-  -- the hops that the frames in the links still owe: each frame one for every device ahead of it
-  abbrev pub owed : Loop L → ℕ
-  owed (tail q) = 0
-  owed (cell q s r) = length q * devices (cell q s r) + owed r

@@ -2,6 +2,7 @@
 // of its idea; here is the boundary that C sees.
 use calls::DrainAnswer;
 use calls::HopAnswer;
+use calls::OwedAnswer;
 use calls::TakeAnswer;
 use coding::DecodeAnswer;
 use coding::EncodeAnswer;
@@ -9,6 +10,7 @@ ghost use mathlib.Core.Path.{_≡_};
 ghost use Rattle.calls.specs.Outcome.{Is};
 ghost use Rattle.calls.specs.Calls.{putOf, takeOf, hopOf, loadOf, statusOf, wishOf};
 ghost use Rattle.calls.specs.Drain.{drainOf};
+ghost use Rattle.calls.specs.Owed.{owedOf};
 ghost use Rattle.calls.specs.SetUp.{setUpOf};
 ghost use Rattle.coding.specs.Coding.{decodeAnswer, encodeAnswer};
 
@@ -66,6 +68,13 @@ pub extern "C" fn pil_wish(area: &mut [u8], device: u64, wish: u64) -> u8
     ensures { λ r. ⌜ Is (wishOf (now (area .entry)) device wish) r (now (area .exit)) ⌝ }
 {
     local_calls::wish(area, device, wish)
+}
+
+#[no_mangle]
+pub extern "C" fn pil_owed(area: &[u8]) -> OwedAnswer
+    ensures { λ r. ⌜ r ≡ owedOf (now (area .entry)) ⌝ }
+{
+    owed::owed(area)
 }
 
 #[no_mangle]

@@ -43,6 +43,8 @@ example =
     record {
       set-up = refl;
       all-empty = empty;
+      begun-owes = refl;
+      mixed-owes = refl;
       mixed-refused = refl;
       mixed-taken = refl;
       mixed-handed = refl;

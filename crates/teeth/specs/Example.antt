@@ -1,5 +1,6 @@
 -- A worked example of demand 3, computed in proofs/Example.antt: two devices, two frames under way at once, a local
--- call between them, a drain that hands a byte, and a call that is refused; and the same right round.
+-- call between them, a drain that hands a byte, and a call that is refused; and the same right round. Beside it the
+-- hops owed.
 use Prim.Native.Nat.{ℕ}
 use mathlib.Core.Path.{_≡_}
 use mathlib.Core.List.{List, [], _∷_, _++_}
@@ -7,10 +8,10 @@ use mathlib.Core.Bool.{Bool, true, false, _&&_}
 use lib.Dec.{T, eqb, ltb, ltb→lt}
 use lib.ListN.{replicate}
 use Rattle.area.specs.Sizes.{areaSize}
-use Rattle.demands.specs.Calls.{Byte, Action, put, hop, take, load, drain, setUp, pil}
+use Rattle.demands.specs.Calls.{Byte, Action, put, hop, take, load, drain, owes, onArea, setUp, owing, pil}
 use Rattle.demands.specs.Conditions.{lowest}
 use Rattle.demands.specs.Histories.{got, areaLeft, framesTaken, bytesHanded, hopsMade, callsRefused, inTurn}
-use Rattle.demands.specs.Demands.{AllEmpty}
+use Rattle.demands.specs.Demands.{AllEmpty, hopsOwed}
 
 abbrev pub byte : (n : ℕ) → T (ltb n 256) → Byte
 byte n small = record { value = n; small = ltb→lt n 256 small }
@@ -35,6 +36,10 @@ mixed =
     put 0x580 ∷ hop 0 ∷ put 0x421 ∷ load 0 (byte 0x42 tt ∷ []) ∷ hop 0 ∷ hop 1 ∷ hop 1 ∷ take ∷ take ∷
     put 0x041 ∷ drain 9 ∷ take ∷ take ∷ []
 
+-- its first three calls: the first frame has one device ahead of it then, the second two
+abbrev pub begun : List Action
+begun = put 0x580 ∷ hop 0 ∷ put 0x421 ∷ []
+
 abbrev pub round : List Action
 round =
     put 0x580 ∷ hop 0 ∷ hop 1 ∷ take ∷
@@ -52,6 +57,9 @@ pub record Example : Type 0 where
   -- demand 3's premises: the set-up is accepted, and all links are empty at the end
   pub set-up : lowest (setUp (item ++ item)) blank ≡ 0
   pub all-empty : AllEmpty (areaLeft fresh mixed)
+  -- after its first three calls three hops are owed, and at the end none
+  pub begun-owes : pil (onArea owes) (areaLeft fresh begun) .answer ≡ owing (record { hops = 3; refusal = 0 })
+  pub mixed-owes : hopsOwed (areaLeft fresh mixed) ≡ 0
   -- what is seen of each history
   pub mixed-refused : callsRefused fresh mixed ≡ 1
   pub mixed-taken : framesTaken fresh mixed ≡ 0x582 ∷ 0x421 ∷ 0x041 ∷ []

@@ -10,7 +10,7 @@ use Rattle.device.specs.Take.{takes}
 use Rattle.area.specs.Loop.{Loop, countIn, loopOf, areaOf, device, link}
 use Rattle.calls.specs.Outcome.{After}
 use Rattle.demands.specs.Calls.{Action, put, hop, drain, Call, onArea, decode, Answer, plain, hopped, taken}
-use Rattle.demands.specs.Calls.{drained, decoded, encoded, pil, refusalIn}
+use Rattle.demands.specs.Calls.{drained, owing, decoded, encoded, pil, refusalIn}
 use Rattle.demands.specs.Conditions.{Empty, Full}
 use Rattle.demands.specs.Histories.{hopsBy}
 use Rattle.demands.specs.Demands.{Refuses, CanHop, ruled, Obeys}
@@ -44,6 +44,7 @@ frameIn (plain k) = 0
 frameIn (hopped r) = r .frame
 frameIn (taken r) = 0
 frameIn (drained r) = 0
+frameIn (owing r) = 0
 frameIn (decoded r) = 0
 frameIn (encoded r) = 0
 
@@ -52,6 +53,7 @@ kindIn (plain k) = 0
 kindIn (hopped r) = 0
 kindIn (taken r) = 0
 kindIn (drained r) = 0
+kindIn (owing r) = 0
 kindIn (decoded r) = r .kind
 kindIn (encoded r) = 0
 

@@ -8,7 +8,7 @@ use Rattle.area.specs.Loop.{loopOf}
 use Rattle.area.specs.declared.Place.{Place}
 use Rattle.area.proofs.Areas.{loop-good}
 use Rattle.calls.specs.Drain.{canHop, highest}
-use Rattle.calls.proofs.Laws.{owed-at-most}
+use Rattle.calls.proofs.Owing.{owed-few}
 use Rattle.calls.proofs.Turns.{Turn, first-turn, none-left, none-more, handed-over, next-turn, highest-found}
 use Rattle.calls.proofs.Turns.{highest-next, highest-none}
 use borrow.Author.Needs.{needs}
@@ -95,7 +95,7 @@ add-hops c =
     omega (
       arith,
       w .turns .inv .0 .paid,
-      owed-at-most (loopOf a)
+      owed-few (loopOf a)
           (loop-good a (λ i. z .slice-known .given i .fits) (s .pre)),
     )
 

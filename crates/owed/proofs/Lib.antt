@@ -1,0 +1,2 @@
+-- Why the loop over the links sums what is owed.
+pub mod Links
