@@ -6,7 +6,7 @@
 #include <stdlib.h>
 #include <string.h>
 
-enum { METER, PRINTER, DEVICES, METER_ADDRESS = 1, READING = 3, ENOUGH_HOPS = 100 };
+enum { METER, PRINTER, DEVICES, METER_ADDRESS = 1, READING = 3 };
 static uint8_t loop[PIL_AREA_LENGTH(DEVICES)], copy[sizeof loop]; /* the copy is made after each accepted call */
 static const uint8_t buffer[PIL_MOST_DATA + 1] = {'1', '.', '5'};
 static unsigned refused_calls;
@@ -70,7 +70,7 @@ int main(void)
             "loaded the printer, which sends no data");
     refused(pil_load(loop, sizeof loop, METER, buffer, sizeof buffer), PIL_TOO_LONG, "loaded a buffer of 33 bytes");
     accepted(pil_load(loop, sizeof loop, METER, buffer, READING), "load");
-    accepted(pil_drain(loop, sizeof loop, ENOUGH_HOPS).refusal, "drain"); /* the SDA has the meter send */
+    accepted(pil_drain(loop, sizeof loop, pil_owed(loop, sizeof loop).hops).refusal, "drain"); /* SDA: a talk begins */
     refused(pil_load(loop, sizeof loop, METER, buffer, READING), PIL_BUSY, "loaded the meter during its talk");
     damaged(PIL_RECORD_AT(METER) + PIL_RECORD_LISTENER, PIL_UNSOUND, "wrote over a byte of the meter's record");
     damaged(PIL_HEADER_DEVICES, PIL_SHAPE, "wrote over byte 0, the number of devices");

@@ -1,4 +1,4 @@
-/* Compares libpil with the model, call by call: answers, every byte of the area, bytes beyond it and bytes lent in.
+/* Compares libpil with the model, call by call: answers, bytes of the area, beyond it and lent in, and the hops owed.
    Use: compare [seed [calls]]. Exit 0: all equal; 1: a difference; 2: a full run reached too little; 3: wrong use. */
 #include "both.h"
 #include "chance.h"
@@ -26,7 +26,9 @@ enum {
     DEFAULT_SEED = 20240,
     DEFAULT_CALLS = 1100000,
     FULL_RUN = 1000000, /* calls from which on the counts below are demanded */
-    LEAST = 100, /* how often each refusal must be given, a byte come back and a message be encoded in each way */
+    LEAST = 100, /* how often each refusal must be given, a byte come back, a message be encoded and hops be owed in each
+                    way */
+    LONG = 8,    /* a loop of so many devices or more is a long one */
     REFUSALS = PIL_BUSY + 1,
     TALKERS = PIL_TALKER_ACCESSORY + 1,
     REASONS = PIL_STOP_HANDED + 1
@@ -38,9 +40,12 @@ enum returned { AS_SENT, OTHER_C1, OTHER_C2, OTHER_C1_AND_C2, OTHER_DATA, RETURN
 /* How an encoding ends: accepted, or refused for one cause alone or for several. */
 enum encoding { WITH_C1_0, WITH_C1_1, BAD_KIND, BAD_OFFSET, C1_OVER_1, C1_WITHOUT_ONE, SEVERAL_CAUSES, ENCODINGS };
 
-enum which { SET_UP, PUT, HOP, TAKE, LOAD, STATUS, WISH, DRAIN, DECODE, ENCODE, WHICH };
+/* What is owed: none, some, the most that so many devices can owe, or a refusal. */
+enum owing { OWES_NONE, OWES_SOME, SHORT_OWES_MOST, LONG_OWES_MOST, OWING_SHAPE, OWING_UNSOUND, OWINGS };
 
-static const char *const names[WHICH] = {"set_up", "put", "hop", "take", "load", "status", "wish", "drain",
+enum which { SET_UP, PUT, HOP, TAKE, LOAD, STATUS, WISH, DRAIN, OWED, DECODE, ENCODE, WHICH };
+
+static const char *const names[WHICH] = {"set_up", "put", "hop", "take", "load", "status", "wish", "drain", "owed",
                                          "decode", "encode"};
 
 /* A call with its arguments; the bytes of set_up and load stand in input. */
@@ -63,11 +68,12 @@ static uint8_t input[INPUT_ROOM], input_before[INPUT_ROOM];
 static uint64_t seed = DEFAULT_SEED, wanted = DEFAULT_CALLS, made;
 static const struct call *under_way;
 static uint64_t refusals[REFUSALS], talkers[TALKERS], reasons[REASONS], returned[RETURNED], encodings[ENCODINGS];
-static uint64_t calls_of[WHICH];
+static uint64_t owings[OWINGS], calls_of[WHICH];
 
-/* The history under way: its number of devices, the frame taken last, whether many frames are under way. */
+/* The history under way: its number of devices, the frame taken last, and whether one frame, many or all that the links
+   can hold are under way. */
 static unsigned n, taken;
-static int crowded;
+static enum { PACED, CROWDED, FILLING } pace;
 
 static uint8_t *area_of(int side)
 {
@@ -90,6 +96,11 @@ static struct answer drained_answer(struct pil_drained d)
 {
     return (struct answer){.refusal = d.refusal, .hops = d.hops, .reason = d.reason, .device = d.device,
                            .byte = d.byte, .end = d.end};
+}
+
+static struct answer owing_answer(struct pil_owing o)
+{
+    return (struct answer){.refusal = o.refusal, .hops = o.hops};
 }
 
 static struct answer taken_answer(struct pil_taken t)
@@ -126,6 +137,7 @@ static struct answer make(int side, const struct call *c)
     case STATUS: return refusal_answer(of->status(area, c->area_len, c->number, (uint8_t)c->second));
     case WISH: return refusal_answer(of->wish(area, c->area_len, c->number, c->second));
     case DRAIN: return drained_answer(of->drain(area, c->area_len, c->number));
+    case OWED: return owing_answer(of->owed(area, c->area_len));
     case DECODE: return decoded_answer(of->decode(c->number));
     default: return encoded_answer(of->encode(c->number, c->second, c->third));
     }
@@ -240,14 +252,70 @@ static void count_answer(const struct call *c, const struct answer *a)
         encodings[encoding(c, a)]++;
 }
 
-/* A refused call alters nothing, an accepted one nothing beyond the area: no model is needed to see this. */
+/* Owed and a refused call alter nothing, an accepted one nothing beyond the area: no model is needed to see this. */
 static int only_lent_bytes_altered(const struct call *c, const struct answer *a)
 {
     size_t end = GUARD + c->area_len;
 
-    if (a->refusal != PIL_ACCEPTED)
+    if (a->refusal != PIL_ACCEPTED || c->which == OWED)
         return memcmp(rooms[PIL], before, ROOM) == 0;
     return memcmp(rooms[PIL], before, GUARD) == 0 && memcmp(rooms[PIL] + end, before + end, ROOM - end) == 0;
+}
+
+/* The most that so many devices can owe: 02, k. */
+static uint32_t most_owed(unsigned devices)
+{
+    return 2 * devices * (devices + 1);
+}
+
+/* What is owed after the call, by what was owed before it and the laws of 02, k: no model is needed to see this. */
+static struct pil_owing owed_by_law(const struct call *c, const struct answer *a, struct pil_owing was)
+{
+    if (a->refusal != PIL_ACCEPTED)
+        return was;
+    switch (c->which) {
+    case SET_UP: return (struct pil_owing){0};
+    case PUT: was.hops += area_of(PIL)[PIL_HEADER_DEVICES]; break;
+    case HOP: was.hops--; break;
+    case DRAIN: was.hops -= (uint32_t)a->hops; break;
+    default: break;
+    }
+    return was;
+}
+
+static int same_owing(struct pil_owing a, struct pil_owing b)
+{
+    return a.refusal == b.refusal && a.hops == b.hops;
+}
+
+static enum owing owing(struct pil_owing o, unsigned devices)
+{
+    if (o.refusal != PIL_ACCEPTED)
+        return o.refusal == PIL_SHAPE ? OWING_SHAPE : OWING_UNSOUND;
+    if (o.hops == most_owed(devices))
+        return devices < LONG ? SHORT_OWES_MOST : LONG_OWES_MOST;
+    return o.hops > 0 ? OWES_SOME : OWES_NONE;
+}
+
+/* What is owed after the call, on both sides and by the laws; what was owed before it is asked of the copy. */
+static void compare_owed(const struct call *c, const struct answer answers[2])
+{
+    struct pil_owing was = pil_owed(before + GUARD, c->area_len), pil = pil_owed(area_of(PIL), c->area_len);
+    struct pil_owing model = model_owed(area_of(MODEL), c->area_len), law = owed_by_law(c, &answers[PIL], was);
+    unsigned devices = area_of(PIL)[PIL_HEADER_DEVICES];
+    char how[160];
+
+    if (memcmp(rooms[PIL], rooms[MODEL], ROOM) != 0)
+        differs("bytes altered by asking what is owed after it", c, answers);
+    if (c->which == DRAIN && c->number >= was.hops && answers[PIL].reason == PIL_STOP_BUDGET)
+        differs("a budget of the hops owed was spent", c, answers);
+    if (!same_owing(pil, model) || !same_owing(pil, law) || pil.hops > most_owed(devices)) {
+        snprintf(how, sizeof how, "owed after it, refusal and hops: pil %u %" PRIu32 ", model %u %" PRIu32
+                 ", by the laws %u %" PRIu32 ", at most %" PRIu32, pil.refusal, pil.hops, model.refusal, model.hops,
+                 law.refusal, law.hops, most_owed(devices));
+        differs(how, c, answers);
+    }
+    owings[owing(pil, devices)]++;
 }
 
 static struct answer compare_call(const struct call *c)
@@ -260,7 +328,6 @@ static struct answer compare_call(const struct call *c)
     under_way = c;
     for (int side = PIL; side <= MODEL; side++)
         answers[side] = make(side, c);
-    under_way = NULL;
     if (memcmp(&answers[PIL], &answers[MODEL], sizeof *answers) != 0)
         differs("the answers", c, answers);
     if (memcmp(rooms[PIL], rooms[MODEL], ROOM) != 0)
@@ -269,6 +336,9 @@ static struct answer compare_call(const struct call *c)
         differs("bytes altered that may not be", c, answers);
     if (memcmp(input, input_before, INPUT_ROOM) != 0)
         differs("the items or bytes to load were altered", c, answers);
+    if (c->which != DECODE && c->which != ENCODE)
+        compare_owed(c, answers);
+    under_way = NULL;
     count_answer(c, &answers[PIL]);
     return answers[PIL];
 }
@@ -317,11 +387,21 @@ static struct call hop_call(unsigned device)
     return (struct call){.which = HOP, .number = device};
 }
 
-static struct call drain_call(void)
+static struct call drain_call(uint64_t budget)
+{
+    return (struct call){.which = DRAIN, .number = budget};
+}
+
+static uint64_t hops_owed(void)
+{
+    return model_owed(area_of(MODEL), PIL_AREA_LENGTH(n)).hops;
+}
+
+static uint64_t some_budget(void)
 {
     static const uint64_t budgets[] = {0, 1, 1, 2, 3, 5, 10, 60, 479, 480, UINT32_MAX, UINT64_MAX};
 
-    return (struct call){.which = DRAIN, .number = budgets[below(sizeof budgets / sizeof *budgets)]};
+    return one_in(6) ? hops_owed() : budgets[below(sizeof budgets / sizeof *budgets)];
 }
 
 static struct call load_call(unsigned device)
@@ -367,8 +447,19 @@ static struct call paced_call(void)
         return (struct call){.which = TAKE};
     for (unsigned device = n; device-- > 0;)
         if (can_hop(device))
-            return one_in(3) ? drain_call() : hop_call(device);
+            return one_in(3) ? drain_call(some_budget()) : hop_call(device);
     return put_call();
+}
+
+/* All that the links can hold: takes a frame out only if there is no room to put one and none can go on. */
+static struct call filling_call(void)
+{
+    if (frames_in(0) < PIL_LINK_DEPTH)
+        return put_call();
+    for (unsigned device = n; device-- > 0;)
+        if (can_hop(device))
+            return one_in(6) ? hop_call(device) : drain_call(hops_owed());
+    return (struct call){.which = TAKE};
 }
 
 static struct call sensible_call(void)
@@ -378,9 +469,11 @@ static struct call sensible_call(void)
     if (one_in(8))
         c = local_call();
     else if (one_in(12))
-        c = drain_call();
+        c = drain_call(some_budget());
+    else if (one_in(20))
+        c = (struct call){.which = OWED};
     else
-        c = crowded ? crowded_call() : paced_call();
+        c = pace == PACED ? paced_call() : pace == CROWDED ? crowded_call() : filling_call();
     c.area_len = PIL_AREA_LENGTH(n);
     return c;
 }
@@ -592,7 +685,7 @@ static void begin(void)
 
     n = chance_devices();
     area_len = PIL_AREA_LENGTH(n);
-    crowded = one_in(2);
+    pace = one_in(6) ? FILLING : one_in(2) ? CROWDED : PACED;
     taken = 0;
     memset(rooms[PIL], 0xa5, ROOM);
     if (one_in(3)) {
@@ -720,6 +813,8 @@ static int report(void)
     enough &= report_counts("encodings accepted with C1 0 (0), with C1 1 (1), refused for the kind (2), the offset "
                             "(3), a C1 over 1 (4), a C1 of 1 on a kind without one (5), several causes (6)", encodings,
                             0, ENCODINGS, LEAST);
+    enough &= report_counts("hops owed after a call: none (0), some (1), the most of a short loop (2), of a long one "
+                            "(3), refused with 1 (4), with 2 (5)", owings, 0, OWINGS, LEAST);
     return enough;
 }
 

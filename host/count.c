@@ -53,6 +53,11 @@ static unsigned drain(const struct calls *of)
     return of->drain(area, sizeof area, UINT64_MAX).hops;
 }
 
+static unsigned owed(const struct calls *of)
+{
+    return of->owed(area, sizeof area).hops;
+}
+
 /* SDA and then each byte that comes out sent right round, till the talker ends: the rounds made. */
 static unsigned whole_record(const struct calls *of)
 {
@@ -81,6 +86,7 @@ static const struct {
     {"busy loop: hop of a talker's own byte", busy_loop_to_hop, last_hop,
      LOOP_FIRST_BYTE + PIL_MOST_ID + PIL_MOST_DATA / 2},
     {"busy loop: drain of 60 hops, data bytes", busy_loop_to_drain, drain, 60},
+    {"busy loop: hops owed, links full", busy_loop, owed, 480},
     {"a talker's 32 bytes sent round, 33 rounds", talker_loop, whole_record, 33},
 };
 

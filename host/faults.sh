@@ -6,7 +6,7 @@ shift
 calls=10000
 status=0
 for seed in 1 2 3; do
-    for fault in 1 2 3 4 5 6 7 8; do
+    for fault in 1 2 3 4 5 6 7 8 9 10 11; do
         found=$("$@" "$dir/compare-fault$fault" $seed $calls | sed -n 's/^difference at call \([0-9]*\) .*/\1/p')
         if [ -n "$found" ] && [ "$found" -le $calls ]; then
             echo "fault $fault, seed $seed: found at call $found"

@@ -751,6 +751,32 @@ struct pil_drained model_drain(uint8_t *area, size_t area_len, uint64_t budget)
     return drained;
 }
 
+/* The hops that a link's frames owe, each one for every device ahead of it. */
+static unsigned owed_by_link(const uint8_t *link, unsigned ahead)
+{
+    unsigned frames = link[PIL_LINK_COUNT];
+
+    if (MODEL_FAULT == 11 && frames > 0)
+        frames = 1;
+    return frames * (MODEL_FAULT == 9 ? ahead - 1 : ahead);
+}
+
+/* 02, k. Ahead of a frame in link i are the devices from i on, ahead of one in the tail none. */
+struct pil_owing model_owed(const uint8_t *area, size_t area_len)
+{
+    struct pil_owing owing = {.refusal = shape_and_soundness(area, area_len)};
+    unsigned n;
+
+    if (owing.refusal)
+        return owing;
+    n = area[PIL_HEADER_DEVICES];
+    for (unsigned i = 0; i < n; i++)
+        owing.hops += owed_by_link(area + PIL_LINK_AT(n, i), n - i);
+    if (MODEL_FAULT == 10)
+        owing.hops += owed_by_link(area + PIL_LINK_AT(n, n), 1);
+    return owing;
+}
+
 /* The lister: 01, Rows for the table, its last part. */
 
 struct listing {

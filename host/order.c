@@ -155,10 +155,20 @@ static void random_call(struct loop *l)
     }
 }
 
+/* A fresh loop owes no hop, so those made and those still owed are frames put times devices at any time. */
+static void must_owe(const struct loop *l)
+{
+    struct pil_owing owing = pil_owed(l->area, l->area_len);
+
+    must(owing.refusal == PIL_ACCEPTED && l->hops + owing.hops == (uint64_t)l->puts * l->n,
+         "the hops made and owed are not frames times devices");
+}
+
 /* Empties all links, with a local call now and then. */
 static void finish(struct loop *l)
 {
     while (!all_empty(l)) {
+        must_owe(l);
         if (one_in(6))
             random_local(l);
         drain(l, one_in(2) ? UINT64_MAX : below(5));
@@ -215,6 +225,7 @@ static void one_history(void)
     must(memcmp(mixed.handeds, right_round.handeds, sizeof mixed.handeds) == 0, "the number of bytes handed");
     must(memcmp(mixed.handed, right_round.handed, sizeof mixed.handed) == 0, "the bytes handed");
     must(mixed.hops == (uint64_t)mixed.puts * n, "the hops are not frames times devices");
+    must_owe(&mixed);
     must(right_round.hops == mixed.hops, "the hops");
 }
 

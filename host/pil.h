@@ -14,7 +14,7 @@
 
 /* The version: the first number rises where a bench has to be changed, the second where something is added. */
 #define PIL_VERSION_MAJOR 2
-#define PIL_VERSION_MINOR 0
+#define PIL_VERSION_MINOR 1
 #define PIL_VERSION_PATCH 0
 #define PIL_VERSION (PIL_VERSION_MAJOR * 10000 + PIL_VERSION_MINOR * 100 + PIL_VERSION_PATCH)
 
@@ -246,6 +246,12 @@ struct pil_drained {
     uint8_t end;     /* for PIL_STOP_HANDED its end bit, else 0 */
 };
 
+/* What pil_owed answers. */
+struct pil_owing {
+    uint32_t hops;   /* hops still owed */
+    uint8_t refusal; /* 0 if accepted */
+};
+
 /* What the decoder answers. */
 struct pil_decoded {
     uint16_t offset; /* DAB, END, IDY: the data bits; kind 0: 0; others: the frame less the first code of its kind */
@@ -287,9 +293,14 @@ uint8_t pil_wish(uint8_t *area, size_t area_len, uint64_t device, uint64_t wish)
 /* Hops the highest-numbered device that can hop, again and again, at most budget times. A hop that hands a byte ends it
    at once, with PIL_STOP_HANDED even if the budget is spent; otherwise, before each hop, PIL_STOP_NO_HOP if none is
    possible, else PIL_STOP_BUDGET if the budget is spent. So budget 0 makes no hop and tells whether one is possible.
-   A budget of 2n(n + 1), 480 for fifteen devices, always suffices: no loop of n devices makes more hops without a put.
-   The frames that devices send are not answered: they lie in the links, and come out at the tail. Gives 1, 2. */
+   A budget of what pil_owed answers always suffices, and so does 2n(n + 1). The frames that devices send are not
+   answered: they lie in the links, and come out at the tail. Gives 1, 2. */
 struct pil_drained pil_drain(uint8_t *area, size_t area_len, uint64_t budget);
+/* The hops still owed: for every frame in a link the devices ahead of it, summed. So it is 0 just where the links
+   before the tail are empty; above 0 there may be no hop possible before a take, as the tail may be full. An accepted
+   put adds n, the number of devices; an accepted hop lowers it by one, a drain by the hops that it answers; an accepted
+   set-up makes it 0, and all else leaves it. It is at most 2n(n + 1), 480 for fifteen devices. Gives 1, 2. */
+struct pil_owing pil_owed(const uint8_t *area, size_t area_len);
 /* The kind of a frame, 0 where it is no message, its offset in the kind, and C1. Gives 4. */
 struct pil_decoded pil_decode(uint64_t frame);
 /* The frame of a kind 1-42, an offset in the kind and C1: the one for which pil_decode answers these. DAB, END and IDY

@@ -1,5 +1,5 @@
-/* Runs the rows of 01 and 02, 01's cases at the limits and codes of 001's message table through libpil.a, called as a
-   bench calls it. Prints each check that fails and exits 1, or one line that says how many held. */
+/* Runs the rows of 01 and 02, 01's cases at the limits, hops owed and codes of 001's message table through libpil.a,
+   called as a bench calls it. Prints each check that fails and exits 1, or one line that says how many held. */
 #include "pil.h"
 
 #include <stdio.h>
@@ -127,6 +127,36 @@ static void limits(void)
     check("16 devices", pil_set_up(longest, PIL_AREA_LENGTH(16), items, PIL_ITEMS_LENGTH(16)), PIL_SHAPE);
 }
 
+static void owes(const char *what, const uint8_t *loop, size_t length, unsigned refusal, unsigned hops)
+{
+    struct pil_owing owing = pil_owed(loop, length);
+
+    check(what, owing.refusal, refusal);
+    check(what, owing.hops, hops);
+}
+
+static void owed_cases(void)
+{
+    static uint8_t loop[PIL_AREA_LENGTH(PIL_MOST_DEVICES)];
+    static const uint8_t items[PIL_ITEMS_LENGTH(PIL_MOST_DEVICES)];
+
+    check("set-up of fifteen", pil_set_up(loop, sizeof loop, items, sizeof items), PIL_ACCEPTED);
+    owes("owed, fresh", loop, sizeof loop, PIL_ACCEPTED, 0);
+    check("put", pil_put(loop, sizeof loop, 0), PIL_ACCEPTED);
+    owes("owed, a put", loop, sizeof loop, PIL_ACCEPTED, 15);
+    check("hop", pil_hop(loop, sizeof loop, 0).refusal, PIL_ACCEPTED);
+    owes("owed, a hop", loop, sizeof loop, PIL_ACCEPTED, 14);
+    while (pil_put(loop, sizeof loop, 0) == PIL_ACCEPTED)
+        pil_drain(loop, sizeof loop, 480);
+    owes("owed, all links full", loop, sizeof loop, PIL_ACCEPTED, 480);
+    check("take", pil_take(loop, sizeof loop).refusal, PIL_ACCEPTED);
+    owes("owed, a take", loop, sizeof loop, PIL_ACCEPTED, 480);
+    fresh();
+    owes("owed, a wrong length", area, sizeof area - 1, PIL_SHAPE, 0);
+    record[PIL_RECORD_ZERO] = 1;
+    owes("owed, a damaged byte", area, sizeof area, PIL_UNSOUND, 0);
+}
+
 static void decodes(const char *what, uint64_t frame, unsigned kind, unsigned offset, unsigned c1)
 {
     struct pil_decoded decoded = pil_decode(frame);
@@ -183,6 +213,7 @@ int main(void)
     data_rows();
     service_rows();
     limits();
+    owed_cases();
     codes();
     if (failed)
         return 1;

@@ -76,6 +76,11 @@ static unsigned long soundness(const struct calls *of, uint8_t *area)
     return of->hop(area, area_len, N).refusal == PIL_NO_DEVICE;
 }
 
+static unsigned long owed(const struct calls *of, uint8_t *area)
+{
+    return of->owed(area, area_len).hops;
+}
+
 static const struct work {
     const char *name;
     void (*make_ready)(uint8_t *);
@@ -89,6 +94,7 @@ static const struct work {
     {"busy loop: hop of one of 15 devices", busy_loop_to_hop, N, hops},
     {"busy loop: drain of 60 hops, data bytes", busy_loop_to_drain, 1, drain},
     {"busy loop: soundness, a hop refused with 3", busy_loop, 1, soundness},
+    {"busy loop: hops owed, links full", busy_loop, 1, owed},
 };
 
 /* One run of one side: nanoseconds a unit. The areas are made anew first, outside the time taken. */
