@@ -121,7 +121,7 @@ judge-is a k h = go (shaped a) (sound a) (rw (shape-is a) at h)
     go false t e = absurd (omega (arith, e))
 
 module _ (c : Action) (a : List ℕ) (bytes : Bytes a) where
-  -- so has that of an accepted call
+  -- so the area of an accepted call has none
   judged : refusalIn (acts c a .answer) ≡ 0 → Judged a
   judged h = record { bytes = bytes; sound = judge-is a _ (sym (demand-1 .by-table (onArea c) a) ∙ h) }
 
