@@ -83,7 +83,7 @@ stays-judged a cs j =
     rw left (record { bytes = area-bytes _ good; sound = area-sound _ good })
 
 pub owed-over : OwedOver
-owed-over a cs j = rw (line-area a j) at (line-over (lineOf a) (line-good a j) cs)
+owed-over a cs j = omega (arith, rw (line-area a j) at (line-over (lineOf a) (line-good a j) cs))
 
 pub owed-at-most : OwedAtMost
 owed-at-most a j = omega (arith, rw (size-is a) at (loop-owes (loopOf a) (loop-sound a (j .bytes) (j .sound))))

@@ -25,7 +25,10 @@ module _ (L : Line) where
   -- a hop by numbers is the line's own hop, laid flat
   pub hop-pays : HopPays L
   hop-pays x y i h ends e =
-      go (hopAt l i) (hop-ok l i) (sym (same-flat L .same-hop l i) ∙ ap (λ (z : Flat L). hopFlat z i) rows ∙ e)
+      omega (
+        arith,
+        go (hopAt l i) (hop-ok l i) (sym (same-flat L .same-hop l i) ∙ ap (λ (z : Flat L). hopFlat z i) rows ∙ e),
+      )
     where
       l : Loop L
       l = lineUp (x .links) (x .states)
