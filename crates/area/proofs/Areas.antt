@@ -81,7 +81,7 @@ no-frames = record { few = omega arith; each = λ k. omega arith }
 
 -- ---- an area without a refusal
 
-judge-zero : (a : List ℕ) → judgeOf a ≡ 0 → (shaped a ≡ true) × (sound a ≡ true)
+pub judge-zero : (a : List ℕ) → judgeOf a ≡ 0 → (shaped a ≡ true) × (sound a ≡ true)
 unfolding judgeOf
 judge-zero a h = go (shaped a) (sound a) h
   where

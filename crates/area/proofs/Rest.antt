@@ -4,17 +4,24 @@ use mathlib.Core.List.{List}
 use mathlib.Core.Bool.{Bool, true, false, not}
 use Prim.Native.Nat.{ℕ, zero, suc, _-_, _*_, _≤_, _<_}
 use native.Mathlib.Omega.{arith}
-use native.Mathlib.Nat.{not-suc-le-zero}
+use native.Mathlib.Nat.{mul-suc, not-suc-le-zero}
 use lib.ListN.{length, take, drop, length-drop}
+use lib.Seq.{take-all}
 use borrow.Author.Tests.{not-true, not-false}
 use Rattle.area.specs.Parts.{parts, all}
 use Rattle.area.proofs.Parts.{rest-is}
+use Rattle.area.proofs.Links.{and-true}
 
 module _ (p : List ℕ → Bool) (w n : ℕ) (b : List ℕ) where
   -- k parts are left, and this is what is left of the bytes
   pub record Rest (k : ℕ) (rest : List ℕ) : Type 0 where
     pub long : w * k ≤ length rest
     pub same : all p (parts w n b) ≡ all p (parts w k rest)
+
+  -- the next part is there
+  pub there : (k : ℕ) (rest : List ℕ) → Rest k rest → 0 < k → w ≤ length rest
+  there zero rest h i = absurd (not-suc-le-zero i)
+  there (suc k) rest h i = let x = mul-suc w k in omega (arith, h .long)
 
   -- a part fails
   pub fails : (k : ℕ) (rest : List ℕ) (r : Bool) → Rest k rest → 0 < k → r ≡ p (take w rest) → not r ≡ true →
@@ -38,3 +45,8 @@ module _ (p : List ℕ → Bool) (w n : ℕ) (b : List ℕ) where
   unfolding all parts
   ends zero rest h i = sym (h .same)
   ends (suc k) rest h i = absurd (not-suc-le-zero i)
+
+-- one part alone
+pub alone : (p : List ℕ → Bool) (w : ℕ) (b : List ℕ) → length b ≡ w → all p (parts w 1 b) ≡ p b
+unfolding all parts
+alone p w b h = rw (take-all w b (omega arith)) (and-true (p b))

@@ -24,11 +24,14 @@ use Rattle.calls.specs.Drain.{noDrain, drainIn}
 use Rattle.calls.specs.Owed.{noOwed, owedIn}
 use Rattle.calls.specs.declared.OwedAnswer.{OwedAnswer}
 use Rattle.calls.specs.SetUp.{devicesFor, itemsFit, poweredOn, setUpOf}
-use Rattle.demands.specs.Calls.{Byte, numbers, Action, put, hop, take, load, status, wish, drain, owes, Call}
-use Rattle.demands.specs.Calls.{onArea, setUp, decode, encode, Answer, plain, hopped, taken, drained, owing}
-use Rattle.demands.specs.Calls.{decoded, encoded, pil, refusalIn, bare, acts}
-use Rattle.demands.specs.Conditions.{devicesAt, badC1, BadFrame, lowest}
+use Rattle.saved.specs.Saved.{saved, savedSize, savedCount, formed, contents}
+use Rattle.saved.specs.Calls.{saveOf, openWith}
+use Rattle.demands.specs.Calls.{Byte, numbers, Action, put, hop, take, load, status, wish, drain, owes, save}
+use Rattle.demands.specs.Calls.{Call, onArea, setUp, opens, decode, encode, Answer, plain, hopped, taken}
+use Rattle.demands.specs.Calls.{drained, owing, saving, decoded, encoded, told, pil, refusalIn, bare, acts}
+use Rattle.demands.specs.Conditions.{devicesAt, badC1, BadFrame, due}
 use Rattle.demands.specs.Demands.{Demand1}
+use Rattle.demands.proofs.Away.{whole}
 use Rattle.demands.proofs.Lengths.{found-at, at-is, shape-is, for-is}
 use Rattle.demands.proofs.Refusals.{yes, Met, call-met, leb-turned, turned-lt}
 use Rattle.demands.proofs.Tests.{size-is, put-told, take-told, hop-told, local-told, load-refusal}
@@ -38,6 +41,18 @@ use Rattle.demands.proofs.Tests.{status-refusal, wish-refusal, drain-to
 record Held (c : Call) (a : List ℕ) (o : After Answer) (k : ℕ) : Type 0 where
   refused : refusalIn (o .answer) ≡ k
   unchanged : (k ≡ 0 → ⊥) → (o .answer ≡ bare c k) × (o .area ≡ a)
+
+-- a plain answer held to a refusal: what is lent to write stays as it was where that is not 0
+Right : List ℕ → After ℕ → ℕ → Type 0
+Right lent o k = (o .answer ≡ k) × ((k ≡ 0 → ⊥) → (o .area ≡ lent))
+
+-- a call that is done where two tests are passed, and refused with 1 and 2 where they are not
+right : (lent x : List ℕ) (s t : Bool) →
+    Right lent (cond s (cond t (after 0 x) (after 2 lent)) (after 1 lent)) (cond (not s) 1 (cond (not t) 2 0))
+unfolding Right
+right lent x true true = (refl, λ z. absurd (z refl))
+right lent x true false = (refl, λ z. refl)
+right lent x false t = (refl, λ z. refl)
 
 -- the first two rows of the table are the judgement of the area, and the others what the call tells of the loop
 module _ (a : List ℕ) where
@@ -54,20 +69,20 @@ module _ (a : List ℕ) where
       (refusalIn (plain (o .answer)) ≡ k) × ((k ≡ 0 → ⊥) → (plain (o .answer) ≡ plain k) × (o .area ≡ a))
   plainly k m = (m .refusal, λ z. (ap plain (m .refused z .0), m .refused z .1))
 
-  put-held : (f : ℕ) → Held (onArea (put f)) a (pil (onArea (put f)) a) (lowest (onArea (put f)) a)
+  put-held : (f : ℕ) → Held (onArea (put f)) a (pil (onArea (put f)) a) (due (onArea (put f)) a)
   unfolding rows
   put-held f =
       let m = call-met refusal refusal (λ k. refl) a (putIn f) _ (put-told f (loopOf a)) in
       let p = plainly _ m in held (put f) _ (record { refused = p .0; unchanged = p .1 })
 
-  take-held : Held (onArea take) a (pil (onArea take) a) (lowest (onArea take) a)
+  take-held : Held (onArea take) a (pil (onArea take) a) (due (onArea take) a)
   unfolding rows
   take-held =
       let t = rw (size-is a) at (take-told (loopOf a)) in
       let m = call-met _ noTake (λ k. refl) a takeIn _ t in
       held take _ (record { refused = m .refusal; unchanged = λ z. (ap taken (m .refused z .0), m .refused z .1) })
 
-  hop-held : (i : ℕ) → Held (onArea (hop i)) a (pil (onArea (hop i)) a) (lowest (onArea (hop i)) a)
+  hop-held : (i : ℕ) → Held (onArea (hop i)) a (pil (onArea (hop i)) a) (due (onArea (hop i)) a)
   unfolding rows
   hop-held i =
       let t = rw (size-is a) at (hop-told i (loopOf a)) in
@@ -75,7 +90,7 @@ module _ (a : List ℕ) where
       held (hop i) _ (record { refused = m .refusal; unchanged = λ z. (ap hopped (m .refused z .0), m .refused z .1) })
 
   load-held : (i : ℕ) (bs : List Byte) →
-      Held (onArea (load i bs)) a (pil (onArea (load i bs)) a) (lowest (onArea (load i bs)) a)
+      Held (onArea (load i bs)) a (pil (onArea (load i bs)) a) (due (onArea (load i bs)) a)
   unfolding rows
   load-held i bs =
       let t = rw (size-is a, load-refusal (device (loopOf a) i) (numbers bs)) at
@@ -84,7 +99,7 @@ module _ (a : List ℕ) where
       let p = plainly _ m in held (load i bs) _ (record { refused = p .0; unchanged = p .1 })
 
   status-held : (i : ℕ) (s : Byte) →
-      Held (onArea (status i s)) a (pil (onArea (status i s)) a) (lowest (onArea (status i s)) a)
+      Held (onArea (status i s)) a (pil (onArea (status i s)) a) (due (onArea (status i s)) a)
   unfolding rows
   status-held i s =
       let t = rw (size-is a, status-refusal (device (loopOf a) i) (s .value)) at
@@ -92,14 +107,14 @@ module _ (a : List ℕ) where
       let m = call-met refusal refusal (λ k. refl) a (localIn (λ d. setsStatus d (s .value)) i) _ t in
       let p = plainly _ m in held (status i s) _ (record { refused = p .0; unchanged = p .1 })
 
-  wish-held : (i w : ℕ) → Held (onArea (wish i w)) a (pil (onArea (wish i w)) a) (lowest (onArea (wish i w)) a)
+  wish-held : (i w : ℕ) → Held (onArea (wish i w)) a (pil (onArea (wish i w)) a) (due (onArea (wish i w)) a)
   unfolding rows
   wish-held i w =
       let t = rw (size-is a, wish-refusal (device (loopOf a) i) w) at (local-told (λ d. wishes d w) i (loopOf a)) in
       let m = call-met refusal refusal (λ k. refl) a (localIn (λ d. wishes d w) i) _ t in
       let p = plainly _ m in held (wish i w) _ (record { refused = p .0; unchanged = p .1 })
 
-  drain-held : (b : ℕ) → Held (onArea (drain b)) a (pil (onArea (drain b)) a) (lowest (onArea (drain b)) a)
+  drain-held : (b : ℕ) → Held (onArea (drain b)) a (pil (onArea (drain b)) a) (due (onArea (drain b)) a)
   unfolding rows
   drain-held b =
       let m = call-met _ noDrain (λ k. refl) a (drainIn b) _ (drain-told b 0 (loopOf a)) in
@@ -109,13 +124,33 @@ module _ (a : List ℕ) where
             (ap drained (m .refused z .0), m .refused z .1);
       })
 
-  owes-held : Held (onArea owes) a (pil (onArea owes) a) (lowest (onArea owes) a)
+  owes-held : Held (onArea owes) a (pil (onArea owes) a) (due (onArea owes) a)
   unfolding rows
   owes-held =
       let m = call-met (λ (r : OwedAnswer). r .refusal) noOwed (λ k. refl) a (reads owedIn) 0 (yes _ _ refl) in
       held owes 0 (record { refused = m .refusal; unchanged = λ z. (ap owing (m .refused z .0), refl) })
 
-  action-held : (c : Action) → Held (onArea c) a (pil (onArea c) a) (lowest (onArea c) a)
+  -- a save: the output's length beside the area's
+  both-turned : (s t : Bool) → (not t || not s) ≡ not (s && t)
+  both-turned true true = refl
+  both-turned true false = refl
+  both-turned false true = refl
+  both-turned false false = refl
+
+  save-held : (out : List Byte) → Held (onArea (save out)) a (pil (onArea (save out)) a) (due (onArea (save out)) a)
+  unfolding saveOf Right
+  save-held out =
+      let fits = eqb (length (numbers out)) (savedSize (countIn a)) in
+      let m : Right (numbers out) (saveOf a (numbers out))
+      (cond (not fits || not (shaped a)) 1 (cond (not (sound a)) 2 0)) =
+      rw (both-turned (shaped a) fits) (right (numbers out) (saved a) (shaped a && fits) (sound a)) in
+      rw (shape-is a)
+      (record {
+        refused = m .0;
+        unchanged = λ z. (ap (λ (o : After ℕ). saving (o .answer) (o .area)) (whole (m .0) (m .1 z)), refl);
+      })
+
+  action-held : (c : Action) → Held (onArea c) a (pil (onArea c) a) (due (onArea c) a)
   action-held (put f) = put-held f
   action-held (hop i) = hop-held i
   action-held take = take-held
@@ -124,6 +159,7 @@ module _ (a : List ℕ) where
   action-held (wish i w) = wish-held i w
   action-held (drain b) = drain-held b
   action-held owes = owes-held
+  action-held (save out) = save-held out
 
 -- ---- set up: the n of the area's length, found by a division
 
@@ -153,42 +189,48 @@ module _ (a : List ℕ) (bytes : List Byte) where
   unfolding D itemsFit
   fit h = let f = found-at (length a) h in rw (le-leb _ _ (f .some), le-leb _ _ (f .few), eq-eqb _ _ (f .long))
 
-  -- what set up does, by the tests that it makes
-  abbrev sets : ℕ → Bool → Bool → After ℕ
-  sets n s t = cond s (cond t (after 0 (areaOf (poweredOn n items))) (after 2 a)) (after 1 a)
-
-  Right : After ℕ → ℕ → Type 0
-  Right o k = (o .answer ≡ k) × ((k ≡ 0 → ⊥) → (o .area ≡ a))
-
-  right : (n : ℕ) (s t : Bool) → Right (sets n s t) (cond (not s) 1 (cond (not t) 2 0))
-  unfolding Right
-  right n true true = (refl, λ z. absurd (z refl))
-  right n true false = (refl, λ z. refl)
-  right n false t = (refl, λ z. refl)
-
-  set-up-right : Right (setUpOf a items) (lowest (setUp bytes) a)
+  set-up-right : Right a (setUpOf a items) (due (setUp bytes) a)
   unfolding setUpOf Right D items
   set-up-right = go (eqb (devicesAt (length a)) 0) refl
     where
       go : (z : Bool) → eqb (devicesAt (length a)) 0 ≡ z →
-          Right (sets (devicesFor (length a)) (itemsFit (devicesFor (length a)) a items)
-          (all allowed (parts itemSize (devicesFor (length a)) items)))
+          Right a (cond (itemsFit (devicesFor (length a)) a items)
+          (cond (all allowed (parts itemSize (devicesFor (length a)) items))
+          (after 0 (areaOf (poweredOn (devicesFor (length a)) items))) (after 2 a)) (after 1 a))
           (cond (z || not (eqb (length items) (itemSize * devicesAt (length a)))) 1
           (cond (not (all allowed (parts itemSize (devicesAt (length a)) items))) 2 0))
       go true e = rw (unfit (eqb-true _ _ e) (devicesFor (length a))) (refl, λ z. refl)
       go false e =
           let h = eqb-false (devicesAt (length a)) 0 e in
           rw (for-is (length a) h, fit h)
-          (right (devicesAt (length a)) (eqb (length items) (itemSize * devicesAt (length a)))
+          (right a (areaOf (poweredOn (devicesAt (length a)) items))
+          (eqb (length items) (itemSize * devicesAt (length a)))
           (all allowed (parts itemSize (devicesAt (length a)) items)))
 
-  set-up-held : Held (setUp bytes) a (pil (setUp bytes) a) (lowest (setUp bytes) a)
+  set-up-held : Held (setUp bytes) a (pil (setUp bytes) a) (due (setUp bytes) a)
   unfolding Right items
   set-up-held = let r = set-up-right in record { refused = r .0; unchanged = λ z. (ap plain (r .0), r .1 z) }
 
+-- ---- opening: the form of the save before the two tests
+
+opens-held : (s : List Byte) (a : List ℕ) → Held (opens s) a (pil (opens s) a) (due (opens s) a)
+unfolding openWith Right
+opens-held s a = go (formed mostDevices (numbers s))
+  where
+    lengths : Bool
+    lengths = eqb (length a) (areaSize (savedCount (numbers s)))
+
+    go : (f : Bool) → Held (opens s) a
+        (told plain (cond f (cond lengths (cond (sound (contents (numbers s))) (after 0 (contents (numbers s)))
+        (after 2 a)) (after 1 a)) (after 10 a)))
+        (cond (not f) 10 (cond (not lengths) 1 (cond (not (sound (contents (numbers s)))) 2 0)))
+    go true = let m = right a (contents (numbers s)) lengths (sound (contents (numbers s))) in
+        record { refused = m .0; unchanged = λ z. (ap plain (m .0), m .1 z) }
+    go false = record { refused = refl; unchanged = λ z. (refl, refl) }
+
 -- ---- decoder and encoder
 
-decode-held : (f : ℕ) (a : List ℕ) → Held (decode f) a (pil (decode f) a) (lowest (decode f) a)
+decode-held : (f : ℕ) (a : List ℕ) → Held (decode f) a (pil (decode f) a) (due (decode f) a)
 unfolding decodeOf
 decode-held f a = rw (turned-lt f frames 4 0) (go (ltb f frames))
   where
@@ -223,7 +265,7 @@ pub outside : (k o c : ℕ) → BadFrame (encode k o c) ≡ not (inList (message
 outside k o c =
     rw (leb-turned o (offsetsOf k), c1-turned k c) (either-turned (ltb o (offsetsOf k)) (ltb c (c1sOf k)))
 
-encode-held : (k o c : ℕ) (a : List ℕ) → Held (encode k o c) a (pil (encode k o c) a) (lowest (encode k o c) a)
+encode-held : (k o c : ℕ) (a : List ℕ) → Held (encode k o c) a (pil (encode k o c) a) (due (encode k o c) a)
 unfolding encodeOf
 encode-held k o c a = rw (outside k o c) (go (inList (message k o c)))
   where
@@ -233,9 +275,10 @@ encode-held k o c a = rw (outside k o c) (go (inList (message k o c)))
     go true = record { refused = refl; unchanged = λ z. absurd (z refl) }
     go false = record { refused = refl; unchanged = λ z. (refl, refl) }
 
-call-held : (c : Call) (a : List ℕ) → Held c a (pil c a) (lowest c a)
+call-held : (c : Call) (a : List ℕ) → Held c a (pil c a) (due c a)
 call-held (onArea c) a = action-held a c
 call-held (setUp items) a = set-up-held a items
+call-held (opens s) a = opens-held s a
 call-held (decode f) a = decode-held f a
 call-held (encode k o c) a = encode-held k o c a
 
@@ -249,7 +292,7 @@ pub record SetsUp (a : List ℕ) (bytes : List Byte) (n : ℕ) : Type 0 where
   pub allows : all allowed (parts itemSize n (numbers bytes)) ≡ true
   pub leaves : pil (setUp bytes) a .area ≡ areaOf (poweredOn n (numbers bytes))
 
-pub sets-up : (a : List ℕ) (bytes : List Byte) → lowest (setUp bytes) a ≡ 0 → SetsUp a bytes (devicesAt (length a))
+pub sets-up : (a : List ℕ) (bytes : List Byte) → due (setUp bytes) a ≡ 0 → SetsUp a bytes (devicesAt (length a))
 unfolding setUpOf D items
 sets-up a bytes z = go (eqb (devicesAt (length a)) 0) refl z
   where

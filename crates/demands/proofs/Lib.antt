@@ -2,6 +2,7 @@
 pub mod Lengths
 pub mod Refusals
 pub mod Tests
+pub mod Away
 pub mod First
 pub mod Bridge
 pub mod ByHops
@@ -10,5 +11,6 @@ pub mod Settled
 pub mod Spliced
 pub mod Second
 pub mod Rendered
+pub mod Lined
 pub mod Third
 pub mod Owing

@@ -12,85 +12,66 @@ use borrow.Author.Tests.{eqb-true, eqb-false}
 use Rattle.record.specs.Fits.{Bytes}
 use Rattle.area.specs.Sizes.{areaSize}
 use Rattle.area.specs.Loop.{Loop, countIn, loopOf, areaOf, shaped, sound, judgeOf, link, Sound-loop}
-use Rattle.area.proofs.Laws.{loop-back, area-back, loop-sound, area-sound, area-bytes}
+use Rattle.area.proofs.Laws.{loop-sound}
 use Rattle.calls.proofs.Owing.{loop-owes}
+use Rattle.saved.specs.Calls.{openOf}
+use Rattle.saved.proofs.Laws.{one-form, saved-once}
 use Rattle.order.specs.Line as line
 use Rattle.order.specs.Flat as flat
 use Rattle.order.specs.History as told
 use Rattle.order.specs.Owed as order
 use Rattle.order.specs.Owed.{owed}
 use Rattle.order.specs.Through.{callsOf}
-use Rattle.order.proofs.Flat.{same-flat}
 use Rattle.order.proofs.Owed as order-proofs
 use Rattle.order.proofs.Owed.{owed-law}
 use Rattle.order.proofs.Idle.{idle-owed}
-use Rattle.demands.specs.Calls.{Action, put, hop, take, load, status, wish, drain, onArea, Answer, acts}
-use Rattle.demands.specs.Calls.{refusalIn}
-use Rattle.demands.specs.Conditions.{devicesAt}
-use Rattle.demands.specs.Histories.{putBy, hopsBy, areaLeft, framesPut, hopsMade, toLoad, toStatus, toWish}
-use Rattle.demands.specs.Histories.{papers, calls, lineOf}
+use Rattle.demands.specs.Calls.{numbers, Action, put, hop, take, load, status, wish, drain, onArea, opens, Answer}
+use Rattle.demands.specs.Calls.{acts, refusalIn}
+use Rattle.demands.specs.Conditions.{devicesAt, badOutput}
+use Rattle.demands.specs.Histories.{Step, call, putBy, hopsBy, areaLeft, framesPut, hopsMade, toLoad, toStatus}
+use Rattle.demands.specs.Histories.{toWish, papers, calls, lineOf}
 use Rattle.demands.specs.Demands.{Judged, hopsOwed, OwedAfterHop, OwedAfterDrain, OwedAfterPut, OwedAfterTake}
-use Rattle.demands.specs.Demands.{OwedAfterLocalCall, OwedAfterRefusal, OwedAfterSetUp, StaysJudged, OwedAtMost}
-use Rattle.demands.specs.Demands.{OwedOver, HopsAtMost, Progress, hop-accepted, take-accepted, NeverStuck}
+use Rattle.demands.specs.Demands.{OwedAfterLocalCall, OwedAfterRefusal, OwedAfterSetUp, OwedAfterOpening}
+use Rattle.demands.specs.Demands.{StaysJudged, OwedAtMost, OwedOver, HopsAtMost, Progress, hop-accepted}
+use Rattle.demands.specs.Demands.{take-accepted, NeverStuck}
 use Rattle.demands.proofs.Lengths.{shape-is}
 use Rattle.demands.proofs.Tests.{size-is}
 use Rattle.demands.proofs.First.{demand-1}
-use Rattle.demands.proofs.Bridge.{loopFlat, toLoop}
+use Rattle.demands.proofs.Away.{whole}
+use Rattle.demands.proofs.Bridge.{toLoop}
 use Rattle.demands.proofs.Settled.{onLoop, fair, follows, acts-on}
 use Rattle.demands.proofs.Rendered.{R, area-is, good-is, puts-are, hops-are}
-use Rattle.demands.proofs.ByHops.{count-is}
-use Rattle.demands.proofs.Third.{ss, fresh-good, fresh-area}
+use Rattle.demands.proofs.Lined.{owed-is, devices-are, line-judged, loop-is, line-good, line-area}
+use Rattle.demands.proofs.Third.{ds, fresh-good, fresh-area}
 
--- ---- the area of a sound line
+-- ---- a history
 
-module _ (l : line.Loop papers) (good : Sound-loop (toLoop l)) where
-  owed-is : hopsOwed (areaOf (toLoop l)) ≡ owed (flat.linksOf l)
-  owed-is = ap (λ (m : Loop). owed (m .links)) (loop-back (toLoop l) good)
-
-  devices-are : countIn (areaOf (toLoop l)) ≡ line.devices l
-  devices-are = count-is (toLoop l) good ∙ same-flat papers .same-devices l
-
-module _ (l : line.Loop papers) (good : Sound-loop (toLoop l)) (cs : List Action) where
-  line-over : hopsMade (areaOf (toLoop l)) cs + hopsOwed (areaLeft (areaOf (toLoop l)) cs)
-      ≡ hopsOwed (areaOf (toLoop l)) + length (framesPut (areaOf (toLoop l)) cs) * countIn (areaOf (toLoop l))
+module _ (l : line.Loop papers) (good : Sound-loop (toLoop l)) (ss : List Step) where
+  line-over : hopsMade (areaOf (toLoop l)) ss + hopsOwed (areaLeft (areaOf (toLoop l)) ss)
+      ≡ hopsOwed (areaOf (toLoop l)) + length (framesPut (areaOf (toLoop l)) ss) * countIn (areaOf (toLoop l))
   line-over =
-      let end = (line.run l (callsOf R cs)) .0 in
-      let e : hopsOwed (areaLeft (areaOf (toLoop l)) cs) ≡ owed (flat.linksOf end) =
-      ap hopsOwed (area-is l good cs) ∙ owed-is end (good-is l good cs) in
-      rw (hops-are l good cs, e, owed-is l good, puts-are l good cs, devices-are l good)
-      (owed-law papers l end (callsOf R cs) ((line.run l (callsOf R cs)) .1) refl)
-
--- ---- an area without a refusal is that of its line
-
-module _ (a : List ℕ) (j : Judged a) where
-  loop-is : toLoop (lineOf a) ≡ loopOf a
-  loop-is =
-      ap (λ (x : flat.Flat papers). loopFlat x)
-      (same-flat papers .same-rows (record { links = loopOf a .links; states = loopOf a .devices })
-      (loop-sound a (j .bytes) (j .sound) .ends))
-
-  line-good : Sound-loop (toLoop (lineOf a))
-  line-good = rw loop-is (loop-sound a (j .bytes) (j .sound))
-
-  line-area : areaOf (toLoop (lineOf a)) ≡ a
-  line-area = ap areaOf loop-is ∙ area-back a (j .bytes) (j .sound)
+      let end = (line.run l (callsOf R ss)) .0 in
+      let e : hopsOwed (areaLeft (areaOf (toLoop l)) ss) ≡ owed (flat.linksOf end) =
+      ap hopsOwed (area-is l good ss) ∙ owed-is end (good-is l good ss) in
+      rw (hops-are l good ss, e, owed-is l good, puts-are l good ss, devices-are l good)
+      (owed-law papers l end (callsOf R ss) ((line.run l (callsOf R ss)) .1) refl)
 
 pub stays-judged : StaysJudged
-stays-judged a cs j =
-    let good = good-is (lineOf a) (line-good a j) cs in
-    let left : areaLeft a cs ≡ areaOf (toLoop ((line.run (lineOf a) (callsOf R cs)) .0)) =
-    rw (line-area a j) at (area-is (lineOf a) (line-good a j) cs) in
-    rw left (record { bytes = area-bytes _ good; sound = area-sound _ good })
+stays-judged a ss j =
+    let good = good-is (lineOf a) (line-good a j) ss in
+    let left : areaLeft a ss ≡ areaOf (toLoop ((line.run (lineOf a) (callsOf R ss)) .0)) =
+    rw (line-area a j) at (area-is (lineOf a) (line-good a j) ss) in
+    rw left (line-judged ((line.run (lineOf a) (callsOf R ss)) .0) good)
 
 pub owed-over : OwedOver
-owed-over a cs j = omega (arith, rw (line-area a j) at (line-over (lineOf a) (line-good a j) cs))
+owed-over a ss j = omega (arith, rw (line-area a j) at (line-over (lineOf a) (line-good a j) ss))
 
 pub owed-at-most : OwedAtMost
 owed-at-most a j = omega (arith, rw (size-is a) at (loop-owes (loopOf a) (loop-sound a (j .bytes) (j .sound))))
 
 pub hops-at-most : HopsAtMost
-hops-at-most a cs j quiet =
-    let e : hopsMade a cs + hopsOwed (areaLeft a cs) ≡ hopsOwed a + 0 * countIn a = rw quiet at (owed-over a cs j) in
+hops-at-most a ss j quiet =
+    let e : hopsMade a ss + hopsOwed (areaLeft a ss) ≡ hopsOwed a + 0 * countIn a = rw quiet at (owed-over a ss j) in
     omega (arith, e, owed-at-most a j)
 
 -- ---- one call
@@ -102,28 +83,30 @@ step : (c : Action) (a : List ℕ) → Judged a →
 step c a j =
     let e : hopsBy c (acts c a .answer) + 0 + hopsOwed (acts c a .area)
     ≡ hopsOwed a + length (putBy c (acts c a .answer)) * countIn a =
-    rw (append-nil (putBy c (acts c a .answer))) at (owed-over a (c ∷ []) j) in
+    rw (append-nil (putBy c (acts c a .answer))) at (owed-over a (call c ∷ []) j) in
     omega (arith, e)
 
 pub owed-after-refusal : OwedAfterRefusal
 owed-after-refusal c a h = ap hopsOwed (demand-1 .changes-nothing c a (λ z. h (demand-1 .by-table c a ∙ z)) .1)
 
--- an area with no condition of the table's first two rows has no refusal
-judge-is : (a : List ℕ) (k : ℕ) →
-    cond (eqb (devicesAt (length a)) 0 || not (eqb (length a) (areaSize (countIn a)))) 1 (cond (not (sound a)) 2 k)
-    ≡ 0 → judgeOf a ≡ 0
+-- an area with no condition of the table's first two rows has no refusal; the first row may have another condition
+judge-is : (a : List ℕ) (other : Bool) (k : ℕ) →
+    cond (other || (eqb (devicesAt (length a)) 0 || not (eqb (length a) (areaSize (countIn a))))) 1
+    (cond (not (sound a)) 2 k) ≡ 0 → judgeOf a ≡ 0
 unfolding judgeOf
-judge-is a k h = go (shaped a) (sound a) (rw (shape-is a) at h)
+judge-is a other k h = go other (shaped a) (sound a) (rw (shape-is a) at h)
   where
-    go : (s t : Bool) → _≡_ {A = ℕ} (cond (not s) 1 (cond (not t) 2 k)) 0 → _≡_ {A = ℕ} (cond s (cond t 0 2) 1) 0
-    go true true e = refl
-    go true false e = absurd (omega (arith, e))
-    go false t e = absurd (omega (arith, e))
+    go : (o s t : Bool) → _≡_ {A = ℕ} (cond (o || not s) 1 (cond (not t) 2 k)) 0 →
+        _≡_ {A = ℕ} (cond s (cond t 0 2) 1) 0
+    go true s t e = absurd (omega (arith, e))
+    go false true true e = refl
+    go false true false e = absurd (omega (arith, e))
+    go false false t e = absurd (omega (arith, e))
 
 module _ (c : Action) (a : List ℕ) (bytes : Bytes a) where
   -- so the area of an accepted call has none
   judged : refusalIn (acts c a .answer) ≡ 0 → Judged a
-  judged h = record { bytes = bytes; sound = judge-is a _ (sym (demand-1 .by-table (onArea c) a) ∙ h) }
+  judged h = record { bytes = bytes; sound = judge-is a (badOutput c a) _ (sym (demand-1 .by-table (onArea c) a) ∙ h) }
 
   -- a call was accepted, or it was refused
   either : {P : Type 0} → (Judged a → P) → ((refusalIn (acts c a .answer) ≡ 0 → ⊥) → P) → P
@@ -210,5 +193,13 @@ never-stuck a i j h =
 pub owed-after-set-up : OwedAfterSetUp
 owed-after-set-up items a set =
     ap hopsOwed (fresh-area a items set)
-    ∙ owed-is (line.idle (ss a items set)) (fresh-good a items set)
-    ∙ idle-owed papers (ss a items set)
+    ∙ owed-is (line.idle (ds a items set)) (fresh-good a items set)
+    ∙ idle-owed papers (ds a items set)
+
+-- ---- and an opening what was saved
+
+pub owed-after-opening : OwedAfterOpening
+owed-after-opening s a b j e h =
+    let z : openOf a (numbers s) .answer ≡ 0 = demand-1 .by-table (opens s) a ∙ h in
+    let f = one-form (openOf a (numbers s) .area) a (numbers s) (whole z refl) in
+    ap hopsOwed (saved-once (openOf a (numbers s) .area) b (f .0) (j .sound) (sym (f .1) ∙ e))

@@ -11,7 +11,7 @@ use Rattle.frame.specs.Messages.{frames}
 use Rattle.record_local.specs.Local.{loads, setsStatus, wishes}
 use Rattle.record.specs.Fits.{Bytes}
 use Rattle.area.specs.Loop.{Loop, areaOf, Sound-loop}
-use Rattle.area.proofs.Laws.{loop-back}
+use Rattle.area.proofs.Laws.{loop-back, area-sound}
 use Rattle.calls.specs.Outcome.{Outcome, refuse, done, loopAfter}
 use Rattle.calls.specs.Calls.{noHop, noTake, refusal, putIn, takeIn, hopIn, localIn}
 use Rattle.calls.specs.Drain.{noDrain, drainIn}
@@ -24,12 +24,13 @@ use Rattle.order.specs.Through.{Rendering, Writing, Every, FairCall, Tells, cal
 use Rattle.order.proofs.Flat.{same-flat}
 use Rattle.order.proofs.Through.{through, read-each, read-total}
 use Rattle.order.proofs.Turns.{calls-each}
-use Rattle.demands.specs.Calls.{Byte, numbers, Action, put, hop, take, load, status, wish, drain, owes, Answer}
-use Rattle.demands.specs.Calls.{plain, hopped, taken, drained, acts}
-use Rattle.demands.specs.Histories.{if, history, putBy, takenBy, handedBy, hopsBy, each, total}
-use Rattle.demands.specs.Histories.{areaLeft, framesPut, framesTaken, bytesHanded, hopsMade, toLoad}
-use Rattle.demands.specs.Histories.{toStatus, toWish, papers, calls, allCalls, lineOf, turnsOf, callSeen}
-use Rattle.demands.specs.Histories.{turnSeen, Drainless, turnsSeen, callsSeen, action}
+use Rattle.demands.specs.Calls.{Byte, numbers, Action, put, hop, take, load, status, wish, drain, owes, save}
+use Rattle.demands.specs.Calls.{Answer, plain, hopped, taken, drained}
+use Rattle.demands.specs.Histories.{Step, call, away, putAway, stepped, history, if, putBy, takenBy, handedBy}
+use Rattle.demands.specs.Histories.{hopsBy, ofCall, each, total, areaLeft, framesPut, framesTaken, bytesHanded}
+use Rattle.demands.specs.Histories.{hopsMade, toLoad, toStatus, toWish, papers, calls, stepCalls, allCalls}
+use Rattle.demands.specs.Histories.{lineOf, turnsOf, callSeen, turnSeen, Drainless, turnsSeen, callsSeen, action}
+use Rattle.demands.proofs.Away.{away-stays}
 use Rattle.demands.proofs.Bridge.{toLoop}
 use Rattle.demands.proofs.Settled.{settle, onLoop, acts-on, fair, follows}
 
@@ -56,28 +57,47 @@ on-loop-sound (status i x) m s = settle-sound plain refusal m (localIn (λ d. se
 on-loop-sound (wish i w) m s = settle-sound plain refusal m (localIn (λ d. wishes d w) i m) (wish-keeps i w m s .sound)
 on-loop-sound (drain b) m s = settle-sound drained noDrain m (drainIn b m) (drain-keeps b m s .sound)
 on-loop-sound owes m s = s
+on-loop-sound (save out) m s = s
 
 -- ---- areas as renderings of lines
 
 pub pair : {A B : Type 0} {x y : A} {v w : B} → x ≡ y → v ≡ w → _≡_ {A = A × B} (x, v) (y, w)
 pair e f = rw (e, f)
 
+-- what a step answers, by the loop before it
+abbrev pub stepSaid : Step → Loop → Answer
+stepSaid (call c) m = (onLoop c m) .1
+stepSaid (away out lent) m = plain (putAway (areaOf m) (numbers out) (numbers lent) .answer)
+
+pub step-keeps : (l : line.Loop papers) (s : Step) → Sound-loop (toLoop l) →
+    Sound-loop (toLoop ((line.run l (stepCalls s)) .0))
+step-keeps l (call c) g = rw (follows c l .loop) at (on-loop-sound c (toLoop l) g)
+step-keeps l (away out lent) g = g
+
+pub step-same : (l : line.Loop papers) (s : Step) → Sound-loop (toLoop l) →
+    _≡_ {A = List ℕ × Answer} (stepped s (areaOf (toLoop l)) .area, stepped s (areaOf (toLoop l)) .answer)
+    (areaOf (toLoop ((line.run l (stepCalls s)) .0)), stepSaid s (toLoop l))
+step-same l (call c) g =
+    pair ((acts-on (toLoop l) g c) .0 ∙ ap areaOf (follows c l .loop)) ((acts-on (toLoop l) g c) .1)
+step-same l (away out lent) g =
+    pair (away-stays (areaOf (toLoop l)) (numbers out) (numbers lent) (area-sound (toLoop l) g)) refl
+
 abbrev pub R : Rendering papers
 R =
     record {
       Area = List ℕ;
-      Op = Action;
+      Op = Step;
       Answer = Answer;
-      op = λ a c. (acts c a .area, acts c a .answer);
+      op = λ a s. (stepped s a .area, stepped s a .answer);
       Good = λ l. Sound-loop (toLoop l);
       render = λ l. areaOf (toLoop l);
-      calls = calls;
-      said = λ c l es. (onLoop c (toLoop l)) .1;
-      keeps = λ l c g. rw (follows c l .loop) at (on-loop-sound c (toLoop l) g);
-      same = λ l c g. pair ((acts-on (toLoop l) g c) .0 ∙ ap areaOf (follows c l .loop)) ((acts-on (toLoop l) g c) .1);
+      calls = stepCalls;
+      said = λ s l es. stepSaid s (toLoop l);
+      keeps = step-keeps;
+      same = step-same;
     }
 
--- ---- every call of the line is an action
+-- ---- every call of the line is a step
 
 pub writes : (c : line.Call papers) → FairCall (λ f. f < frames) c → calls (action c) ≡ c ∷ []
 writes (line.put f) h = rw (lt-ltb f frames h)
@@ -104,27 +124,32 @@ fairs (status i s) = (tt, tt)
 fairs (wish i w) = (tt, tt)
 fairs (drain b) = (tt, tt)
 fairs owes = tt
+fairs (save out) = tt
+
+pub step-fair : (s : Step) → Every (FairCall {L = papers} (λ f. f < frames)) (stepCalls s)
+step-fair (call c) = fairs c
+step-fair (away out lent) = tt
 
 abbrev pub W : Writing R
-W = record { Fair = λ f. f < frames; write = action; writes = writes; fair = fairs }
+W = record { Fair = λ f. f < frames; write = λ c. call (action c); writes = writes; fair = step-fair }
 
 -- ---- the page's histories are these
 
-same-history : (a : List ℕ) (cs : List Action) → history a cs ≡ order.history R a cs
+same-history : (a : List ℕ) (ss : List Step) → history a ss ≡ order.history R a ss
 same-history a [] = refl
-same-history a (c ∷ cs) = rw (same-history (acts c a .area) cs)
+same-history a (s ∷ ss) = rw (same-history (stepped s a .area) ss)
 
-pub same-calls : (cs : List Action) → allCalls cs ≡ callsOf R cs
+pub same-calls : (ss : List Step) → allCalls ss ≡ callsOf R ss
 same-calls [] = refl
-same-calls (c ∷ cs) = ap (λ (r : List (line.Call papers)). calls c ++ r) (same-calls cs)
+same-calls (s ∷ ss) = ap (λ (r : List (line.Call papers)). stepCalls s ++ r) (same-calls ss)
 
-same-each : {A : Type 0} (g : Action → Answer → List A) (cs : List Action) (rs : List Answer) →
+same-each : {A : Type 0} (g : Step → Answer → List A) (cs : List Step) (rs : List Answer) →
     each g cs rs ≡ order.readEach R g cs rs
 same-each g [] rs = refl
 same-each g (c ∷ cs) [] = refl
 same-each g (c ∷ cs) (r ∷ rs) = rw (same-each g cs rs)
 
-same-total : (g : Action → Answer → ℕ) (cs : List Action) (rs : List Answer) → total g cs rs ≡ order.readTotal R g cs rs
+same-total : (g : Step → Answer → ℕ) (cs : List Step) (rs : List Answer) → total g cs rs ≡ order.readTotal R g cs rs
 same-total g [] rs = refl
 same-total g (c ∷ cs) [] = refl
 same-total g (c ∷ cs) (r ∷ rs) = rw (same-total g cs rs)
@@ -143,59 +168,69 @@ module _ (l : line.Loop papers) (good : Sound-loop (toLoop l)) where
   pub line-is : lineOf (areaOf (toLoop l)) ≡ l
   line-is = rw (loop-back (toLoop l) good) (same-flat papers .same-loop l)
 
-  module _ (cs : List Action) where
+  module _ (ss : List Step) where
     es : List (line.Event papers)
-    es = (line.run l (callsOf R cs)) .1
+    es = (line.run l (callsOf R ss)) .1
 
-    pub area-is : areaLeft (areaOf (toLoop l)) cs ≡ areaOf (toLoop ((line.run l (callsOf R cs)) .0))
-    area-is = ap (λ (p : List ℕ × List Answer). p .0) (same-history (areaOf (toLoop l)) cs ∙ (through R l cs good) .0)
+    pub area-is : areaLeft (areaOf (toLoop l)) ss ≡ areaOf (toLoop ((line.run l (callsOf R ss)) .0))
+    area-is = ap (λ (p : List ℕ × List Answer). p .0) (same-history (areaOf (toLoop l)) ss ∙ (through R l ss good) .0)
 
-    pub good-is : Sound-loop (toLoop ((line.run l (callsOf R cs)) .0))
-    good-is = (through R l cs good) .1
+    pub good-is : Sound-loop (toLoop ((line.run l (callsOf R ss)) .0))
+    good-is = (through R l ss good) .1
 
-    read-those : {A : Type 0} (g : Action → Answer → List A) (e : line.Event papers → List A) →
-        Every (Tells R g e) cs →
-        each g cs ((history (areaOf (toLoop l)) cs) .1) ≡ told.each e ((line.run l (callsOf R cs)) .1)
-    read-those {A} g e h = rw (same-history (areaOf (toLoop l)) cs) (same-each g cs _ ∙ read-each R A g e cs h l good)
+    read-those : {A : Type 0} (g : Step → Answer → List A) (e : line.Event papers → List A) →
+        Every (Tells R g e) ss →
+        each g ss ((history (areaOf (toLoop l)) ss) .1) ≡ told.each e ((line.run l (callsOf R ss)) .1)
+    read-those {A} g e h = rw (same-history (areaOf (toLoop l)) ss) (same-each g ss _ ∙ read-each R A g e ss h l good)
 
     read : {A : Type 0} (g : Action → Answer → List A) (e : line.Event papers → List A) →
         ((m : line.Loop papers) (c : Action) →
         g c ((onLoop c (toLoop m)) .1) ≡ told.each e ((line.run m (calls c)) .1)) →
-        each g cs ((history (areaOf (toLoop l)) cs) .1) ≡ told.each e ((line.run l (callsOf R cs)) .1)
-    read g e h = read-those g e (every (λ c m u. h m c) cs)
+        each (ofCall [] g) ss ((history (areaOf (toLoop l)) ss) .1) ≡ told.each e ((line.run l (callsOf R ss)) .1)
+    read {A} g e h = read-those (ofCall [] g) e (every tells ss)
+      where
+        tells : (s : Step) → Tells R (ofCall [] g) e s
+        tells (call c) m u = h m c
+        tells (away out lent) m u = refl
 
     pub count : (g : Action → Answer → ℕ) (e : line.Event papers → ℕ) →
         ((m : line.Loop papers) (c : Action) →
         g c ((onLoop c (toLoop m)) .1) ≡ told.total e ((line.run m (calls c)) .1)) →
-        total g cs ((history (areaOf (toLoop l)) cs) .1) ≡ told.total e ((line.run l (callsOf R cs)) .1)
-    count g e h = rw (same-history (areaOf (toLoop l)) cs)
-        (same-total g cs _ ∙ read-total R g e (λ m c u. h m c) l cs good)
+        total (ofCall 0 g) ss ((history (areaOf (toLoop l)) ss) .1) ≡ told.total e ((line.run l (callsOf R ss)) .1)
+    count g e h = rw (same-history (areaOf (toLoop l)) ss)
+        (same-total (ofCall 0 g) ss _ ∙ read-total R (ofCall 0 g) e tells l ss good)
+      where
+        tells : (m : line.Loop papers) (s : Step) → Sound-loop (toLoop m) →
+            ofCall 0 g s (stepSaid s (toLoop m)) ≡ told.total e ((line.run m (stepCalls s)) .1)
+        tells m (call c) u = h m c
+        tells m (away out lent) u = refl
 
-    pub puts-are : framesPut (areaOf (toLoop l)) cs ≡ told.puts ((line.run l (callsOf R cs)) .1)
+    pub puts-are : framesPut (areaOf (toLoop l)) ss ≡ told.puts ((line.run l (callsOf R ss)) .1)
     puts-are = read putBy (λ e. told.putBy e) (λ m c. follows c m .reads .puts)
 
-    pub taken-are : framesTaken (areaOf (toLoop l)) cs ≡ told.taken ((line.run l (callsOf R cs)) .1)
+    pub taken-are : framesTaken (areaOf (toLoop l)) ss ≡ told.taken ((line.run l (callsOf R ss)) .1)
     taken-are = read takenBy (λ e. told.takenBy e) (λ m c. follows c m .reads .taken)
 
-    pub handed-are : (i : ℕ) → bytesHanded (areaOf (toLoop l)) cs i ≡ told.handed ((line.run l (callsOf R cs)) .1) i
+    pub handed-are : (i : ℕ) → bytesHanded (areaOf (toLoop l)) ss i ≡ told.handed ((line.run l (callsOf R ss)) .1) i
     handed-are i = read (handedBy i) (λ e. told.handedBy i e) (λ m c. follows c m .reads .handed i)
 
-    pub hops-are : hopsMade (areaOf (toLoop l)) cs ≡ told.hopsMade ((line.run l (callsOf R cs)) .1)
+    pub hops-are : hopsMade (areaOf (toLoop l)) ss ≡ told.hopsMade ((line.run l (callsOf R ss)) .1)
     hops-are = count hopsBy (λ e. told.hopBy e) (λ m c. follows c m .reads .hops)
 
-    pub turns-are : (i : ℕ) → turnsOf (areaOf (toLoop l)) cs i ≡ told.turns ((line.run l (callsOf R cs)) .1) i
-    turns-are i = rw (line-is, same-calls cs)
+    pub turns-are : (i : ℕ) → turnsOf (areaOf (toLoop l)) ss i ≡ told.turns ((line.run l (callsOf R ss)) .1) i
+    turns-are i = rw (line-is, same-calls ss)
 
     -- its turns, as its caller sees them
-    pub turns-seen : Drainless cs → (i : ℕ) →
-        turnsSeen (areaOf (toLoop l)) cs i ≡ told.turns ((line.run l (callsOf R cs)) .1) i
-    turns-seen d i = read-those (turnSeen i) (λ e. told.turnBy i e) (tell cs d)
+    pub turns-seen : Drainless ss → (i : ℕ) →
+        turnsSeen (areaOf (toLoop l)) ss i ≡ told.turns ((line.run l (callsOf R ss)) .1) i
+    turns-seen d i = read-those (ofCall [] (turnSeen i)) (λ e. told.turnBy i e) (tell ss d)
       where
-        tell : (ds : List Action) → Drainless ds → Every (Tells R (turnSeen i) (λ e. told.turnBy i e)) ds
+        tell : (rs : List Step) → Drainless rs → Every (Tells R (ofCall [] (turnSeen i)) (λ e. told.turnBy i e)) rs
         tell [] u = tt
-        tell (c ∷ ds) u = (λ m g. follows c m .reads .turned (u .0) i, tell ds (u .1))
+        tell (call c ∷ rs) u = (λ m g. follows c m .reads .turned (u .0) i, tell rs (u .1))
+        tell (away out lent ∷ rs) u = (λ m g. refl, tell rs (u .1))
 
-    pub calls-seen : (i : ℕ) → callsSeen (areaOf (toLoop l)) cs i ≡
-        told.callsIn (told.turns ((line.run l (callsOf R cs)) .1) i)
+    pub calls-seen : (i : ℕ) → callsSeen (areaOf (toLoop l)) ss i ≡
+        told.callsIn (told.turns ((line.run l (callsOf R ss)) .1) i)
     calls-seen i = read (callSeen i) (λ e. told.callsIn (told.turnBy i e)) (λ m c. follows c m .reads .called i)
-        ∙ sym (calls-each ((line.run l (callsOf R cs)) .1) i)
+        ∙ sym (calls-each ((line.run l (callsOf R ss)) .1) i)

@@ -34,10 +34,14 @@ use Rattle.coding.specs.Coding.{decodedAs, decodeAnswer, encodedAs, encodeAnswe
 use Rattle.coding.specs.declared.DecodeAnswer.{DecodeAnswer}
 use Rattle.coding.specs.declared.EncodeAnswer.{EncodeAnswer}
 use Rattle.calls.specs.SetUp.{poweredOn}
-use Rattle.demands.specs.Calls.{Byte, numbers, hop, owes, setUp, encode, Answer, plain, hopped, owing, decoded}
-use Rattle.demands.specs.Calls.{encoded, acts, pil}
-use Rattle.demands.specs.Conditions.{devicesAt, lowest}
-use Rattle.demands.specs.Demands.{CanHop, ruled, recordTaken, linkLess, hopLeaves, hopsOwed, Demand2}
+use Rattle.saved.specs.Saved.{saved, contents}
+use Rattle.saved.specs.Calls.{saveOf, openOf}
+use Rattle.saved.proofs.Laws as saved-laws
+use Rattle.demands.specs.Calls.{Byte, numbers, hop, owes, save, onArea, setUp, opens, encode, Answer, plain}
+use Rattle.demands.specs.Calls.{hopped, owing, saving, decoded, encoded, told, acts, pil}
+use Rattle.demands.specs.Conditions.{devicesAt, due}
+use Rattle.demands.specs.Demands.{CanHop, ruled, recordTaken, linkLess, hopLeaves, hopsOwed, Demand2, SavedLoops}
+use Rattle.demands.proofs.Away.{whole, save-leaves, open-leaves}
 use Rattle.demands.proofs.Tests.{size-is}
 use Rattle.demands.proofs.First.{outside, demand-1, sets-up}
 use Rattle.demands.proofs.ByHops.{drain-hops}
@@ -116,24 +120,36 @@ module _ (i f : ℕ) (fs a : List ℕ) (can : CanHop i f fs a) where
   hop-answers : acts (hop i) a .answer ≡ hopped (hopAnswer (ruled i f a .frame) (ruled i f a .handed))
   hop-answers = ap (λ (o : After HopAnswer). hopped (o .answer)) hop-is
 
--- ---- owed, set up, decoder and encoder
+-- ---- owed, set up, save and opening, decoder and encoder
 
 owed-told : (a : List ℕ) → judgeOf a ≡ 0 →
     acts owes a ≡ after (owing (record { hops = hopsOwed a; refusal = 0 })) a
 owed-told a z = ap (λ (o : After OwedAnswer). after (owing (o .answer)) a) (call-done noOwed (reads owedIn) a z)
 
-set-up-leaves : (items : List Byte) (a : List ℕ) → lowest (setUp items) a ≡ 0 →
+set-up-leaves : (items : List Byte) (a : List ℕ) → due (setUp items) a ≡ 0 →
     pil (setUp items) a ≡ after (plain 0) (areaOf (poweredOn (devicesAt (length a)) (numbers items)))
 set-up-leaves items a z =
     ap (λ (r : Answer). after r (pil (setUp items) a .area))
     (ap plain (demand-1 .by-table (setUp items) a ∙ z))
     ∙ ap (λ (x : List ℕ). after (plain 0) x) (sets-up a items z .leaves)
 
+saved-out : (out : List Byte) (a : List ℕ) → due (onArea (save out)) a ≡ 0 →
+    acts (save out) a ≡ after (saving 0 (saved a)) a
+saved-out out a z =
+    let k : saveOf a (numbers out) .answer ≡ 0 = demand-1 .by-table (onArea (save out)) a ∙ z in
+    ap (λ (o : After ℕ). after (saving (o .answer) (o .area)) a) (whole k (save-leaves a (numbers out) k))
+
+opened-as : (s : List Byte) (a : List ℕ) → due (opens s) a ≡ 0 →
+    pil (opens s) a ≡ after (plain 0) (contents (numbers s))
+opened-as s a z =
+    let k : openOf a (numbers s) .answer ≡ 0 = demand-1 .by-table (opens s) a ∙ z in
+    ap (λ (o : After ℕ). told plain o) (whole k (open-leaves a (numbers s) k))
+
 decode-answers : (f : ℕ) → f < frames → decodeAnswer f ≡ decodedAs (decoder.Of (decoding f))
 unfolding decodeOf
 decode-answers f h = rw (lt-ltb f frames h)
 
-encode-answers : (k o c : ℕ) (a : List ℕ) → lowest (encode k o c) a ≡ 0 →
+encode-answers : (k o c : ℕ) (a : List ℕ) → due (encode k o c) a ≡ 0 →
     encodeAnswer k o c ≡ encodedAs (encoder.Frame (frameOf (message k o c)))
 unfolding encodeOf
 encode-answers k o c a z = go (inList (message k o c)) (rw (outside k o c) at z)
@@ -157,6 +173,8 @@ demand-2 =
             local-calls = λ c i a j h z. local-call-leaves a j c i h z;
             tells-owed = λ a j. owed-told a (j .sound);
             sets-up = set-up-leaves;
+            saves = saved-out;
+            opening = opened-as;
             decodes = λ f a h. ap (λ (r : DecodeAnswer). after (decoded r) a) (decode-answers f h);
             encodes = λ k o c a z. ap (λ (r : EncodeAnswer). after (encoded r) a) (encode-answers k o c a z);
           };
@@ -164,4 +182,15 @@ demand-2 =
       decode-encode = decode-encode;
       encode-decode = encode-decode;
       kind-zero = kind-zero;
+    }
+
+pub saved-loops : SavedLoops
+saved-loops =
+    record {
+      saved-long = saved-laws.saved-is-long;
+      open-after-save = saved-laws.open-after-save;
+      open-over = saved-laws.open-over;
+      one-form = saved-laws.one-form;
+      save-opened = saved-laws.save-opened;
+      saved-once = saved-laws.saved-once;
     }

@@ -28,10 +28,11 @@ use Rattle.order.proofs.Flat.{same-flat}
 use Rattle.order.proofs.Drain.{none-same, drain-is-hops, drain-stops}
 use Rattle.order.proofs.Through.{each-append}
 use Rattle.order.proofs.Turns.{here, elsewhere}
-use Rattle.demands.specs.Calls.{numbers, Action, put, hop, take, load, status, wish, drain, owes, Answer, plain}
-use Rattle.demands.specs.Calls.{hopped, taken, drained, owing, acts}
-use Rattle.demands.specs.Histories.{Got, got, if, putBy, takenBy, handedBy, hopsBy, refusedBy, Local, toLoad}
-use Rattle.demands.specs.Histories.{toStatus, toWish, papers, calls, hopSeen, callSeen, turnSeen, isDrain}
+use Rattle.saved.specs.Calls.{saveOf}
+use Rattle.demands.specs.Calls.{numbers, Action, put, hop, take, load, status, wish, drain, owes, save, Answer}
+use Rattle.demands.specs.Calls.{plain, hopped, taken, drained, owing, saving, acts}
+use Rattle.demands.specs.Histories.{call, Got, got, if, putBy, takenBy, handedBy, hopsBy, refusedBy, Local}
+use Rattle.demands.specs.Histories.{toLoad, toStatus, toWish, papers, calls, hopSeen, callSeen, turnSeen, isDrain}
 use Rattle.demands.proofs.Bridge.{toLoop, Alike, handedIn, put-alike, take-alike}
 use Rattle.demands.proofs.Bridge.{hop-alike, local-alike}
 use Rattle.demands.proofs.Drains.{drainAnswer, drained-alike}
@@ -52,17 +53,18 @@ onLoop (status i s) m = settle plain refusal m (localIn (λ d. setsStatus d (s .
 onLoop (wish i w) m = settle plain refusal m (localIn (λ d. wishes d w) i m)
 onLoop (drain b) m = settle drained noDrain m (drainIn b m)
 onLoop owes m = (m, owing (owedIn m))
+onLoop (save out) m = (m, saving (saveOf (areaOf m) (numbers out) .answer) (saveOf (areaOf m) (numbers out) .area))
 
 -- an answer and an area are those of a loop and its answer
 abbrev IsOn : After Answer → Loop × Answer → Type 0
 IsOn o p = (o .area ≡ areaOf (p .0)) × (o .answer ≡ p .1)
 
 module _ (m : Loop) (s : Sound-loop m) where
-  settled : {A : Type 0} (kind : A → Answer) (deny : ℕ → A) (call : Loop → Outcome A) →
-      IsOn (after (kind (callOf deny call (areaOf m) .answer)) (callOf deny call (areaOf m) .area))
-      (settle kind deny m (call m))
+  settled : {A : Type 0} (kind : A → Answer) (deny : ℕ → A) (does : Loop → Outcome A) →
+      IsOn (after (kind (callOf deny does (areaOf m) .answer)) (callOf deny does (areaOf m) .area))
+      (settle kind deny m (does m))
   unfolding callOf
-  settled kind deny call = rw (area-sound m s, loop-back m s) (go (call m))
+  settled kind deny does = rw (area-sound m s, loop-back m s) (go (does m))
     where
       go : (o : Outcome _) →
           IsOn (after (kind (afterOf deny (areaOf m) o .answer)) (afterOf deny (areaOf m) o .area))
@@ -79,10 +81,12 @@ module _ (m : Loop) (s : Sound-loop m) where
   acts-on (wish i w) = settled plain refusal (localIn (λ d. wishes d w) i)
   acts-on (drain b) = settled drained noDrain (drainIn b)
   acts-on owes = (refl, (settled owing noOwed (reads owedIn)) .1)
+  acts-on (save out) = (refl, refl)
 
 -- ---- what is read off an answer is what happened
 
--- a call whose arguments the line can take: a put of a frame, and every other
+-- a call that the line refuses where the area does: every one but a put of what is no frame, and a save, which the line
+-- does not have
 abbrev pub fair : Action → Bool
 fair (put f) = ltb f frames
 fair (hop i) = true
@@ -92,6 +96,7 @@ fair (status i s) = true
 fair (wish i w) = true
 fair (drain b) = true
 fair owes = true
+fair (save out) = false
 
 pub record Reads (c : Action) (r : Answer) (es : List (line.Event papers)) : Type 0 where
   pub puts : putBy c r ≡ told.puts es
@@ -100,7 +105,7 @@ pub record Reads (c : Action) (r : Answer) (es : List (line.Event papers)) : Typ
   pub called : (i : ℕ) → callSeen i c r ≡ told.each (λ e. told.callsIn (told.turnBy i e)) es
   pub turned : isDrain c ≡ false → (i : ℕ) → turnSeen i c r ≡ told.turns es i
   pub hops : hopsBy c r ≡ told.hopsMade es
-  pub refused : cond (fair c) (refusedBy c r) 0 ≡ told.refusals es
+  pub refused : cond (fair c) (refusedBy (call c) r) 0 ≡ told.refusals es
 
 -- the loop after an action is that of the line after its calls, and its answer tells what happened
 pub record Follows (c : Action) (l : line.Loop papers) (p : Loop × Answer)
@@ -398,6 +403,20 @@ follows (wish i w) l =
     (rw (same-flat papers .same-call l i (toWish w)) at (local-alike (toWish w) i (flat.flat l)))
 follows (drain b) l = drain-follows b l
 follows owes l =
+    record {
+      loop = refl;
+      reads =
+          record {
+            puts = refl;
+            taken = refl;
+            handed = λ i. refl;
+            called = λ i. refl;
+            turned = λ q i. refl;
+            hops = refl;
+            refused = refl;
+          };
+    }
+follows (save out) l =
     record {
       loop = refl;
       reads =

@@ -7,6 +7,7 @@ use Rattle.calls.specs.Calls.{noTake, noHop, putOf, takeOf, hopOf, loadOf, stat
 use Rattle.calls.specs.Drain.{noDrain, drainOf}
 use Rattle.calls.specs.Owed.{noOwed, owedOf}
 use Rattle.calls.specs.SetUp.{setUpOf}
+use Rattle.saved.specs.Calls.{saveOf, openOf}
 use Rattle.coding.specs.Coding.{noDecoding, decodeAnswer, noEncoding, encodeAnswer}
 use Rattle.calls.specs.declared.HopAnswer.{HopAnswer}
 use Rattle.calls.specs.declared.TakeAnswer.{TakeAnswer}
@@ -23,7 +24,7 @@ pub record Byte : Type 0 where
 abbrev pub numbers : List Byte → List ℕ
 numbers bs = map (λ (b : Byte). b .value) bs
 
--- a call on the area of a loop that is set up
+-- a call on the area of a loop that is set up or opened
 pub data Action : Type 0 where
   put : ℕ → Action
   hop : ℕ → Action
@@ -33,11 +34,14 @@ pub data Action : Type 0 where
   wish : ℕ → ℕ → Action
   drain : ℕ → Action
   owes : Action
+  -- with the bytes of its output before
+  save : List Byte → Action
 
 -- any exported call
 pub data Call : Type 0 where
   onArea : Action → Call
   setUp : List Byte → Call
+  opens : (s : List Byte) → Call
   decode : ℕ → Call
   encode : (kind offset c1 : ℕ) → Call
 
@@ -48,6 +52,8 @@ pub data Answer : Type 0 where
   taken : TakeAnswer → Answer
   drained : DrainAnswer → Answer
   owing : OwedAnswer → Answer
+  -- a refusal, and the output of a save afterwards
+  saving : ℕ → List ℕ → Answer
   decoded : DecodeAnswer → Answer
   encoded : EncodeAnswer → Answer
 
@@ -55,7 +61,7 @@ pub data Answer : Type 0 where
 abbrev pub told : {A : Type 0} → (A → Answer) → After A → After Answer
 told kind o = after (kind (o .answer)) (o .area)
 
--- what a call on an area answers and leaves; owes is lent its area to read alone
+-- what a call on an area answers and leaves; owes and save are lent their area to read alone
 abbrev pub acts : Action → List ℕ → After Answer
 acts (put f) a = told plain (putOf a f)
 acts (hop i) a = told hopped (hopOf a i)
@@ -65,11 +71,13 @@ acts (status i s) a = told plain (statusOf a i (s .value))
 acts (wish i w) a = told plain (wishOf a i w)
 acts (drain b) a = told drained (drainOf a b)
 acts owes a = after (owing (owedOf a)) a
+acts (save out) a = after (saving (saveOf a (numbers out) .answer) (saveOf a (numbers out) .area)) a
 
 -- what a call answers and leaves; decoder and encoder are lent no area
 abbrev pub pil : Call → List ℕ → After Answer
 pil (onArea c) a = acts c a
 pil (setUp items) a = told plain (setUpOf a (numbers items))
+pil (opens s) a = told plain (openOf a (numbers s))
 pil (decode f) a = after (decoded (decodeAnswer f)) a
 pil (encode k o c) a = after (encoded (encodeAnswer k o c)) a
 
@@ -80,10 +88,11 @@ refusalIn (hopped r) = r .refusal
 refusalIn (taken r) = r .refusal
 refusalIn (drained r) = r .refusal
 refusalIn (owing r) = r .refusal
+refusalIn (saving k out) = k
 refusalIn (decoded r) = r .refusal
 refusalIn (encoded r) = r .refusal
 
--- the answer of a refusal: its number and otherwise zeros
+-- the answer of a refusal: its number and otherwise zeros, and an output as it was
 abbrev pub bareAction : Action → ℕ → Answer
 bareAction (put f) k = plain k
 bareAction (hop i) k = hopped (noHop k)
@@ -93,9 +102,11 @@ bareAction (status i s) k = plain k
 bareAction (wish i w) k = plain k
 bareAction (drain b) k = drained (noDrain k)
 bareAction owes k = owing (noOwed k)
+bareAction (save out) k = saving k (numbers out)
 
 abbrev pub bare : Call → ℕ → Answer
 bare (onArea c) k = bareAction c k
 bare (setUp items) k = plain k
+bare (opens s) k = plain k
 bare (decode f) k = decoded (noDecoding k)
 bare (encode j o c) k = encoded (noEncoding k)

@@ -1,5 +1,5 @@
--- The nine conditions of 01's refusal table, each a test of a call and an area, written from the table row by row, with
--- what 02, g, adds to the fourth.
+-- The conditions of 01's refusal table, each a test of a call and an area, written from the table row by row, with what
+-- 02 adds: g to the fourth, a to the first two and a tenth.
 use Prim.Native.Nat.{ℕ, zero, suc, _*_}
 use mathlib.Core.List.{List, [], _∷_}
 use mathlib.Core.Bool.{Bool, false, not, cond, _&&_, _||_}
@@ -12,8 +12,9 @@ use Rattle.record.specs.Sound.{allowed}
 use Rattle.area.specs.Sizes.{depth, mostDevices, itemSize, areaSize}
 use Rattle.area.specs.Parts.{parts, all}
 use Rattle.area.specs.Loop.{countIn, loopOf, sound, device, link}
-use Rattle.demands.specs.Calls.{numbers, Action, put, hop, take, load, status, wish, drain, owes, Call, onArea}
-use Rattle.demands.specs.Calls.{setUp, decode, encode}
+use Rattle.saved.specs.Saved.{savedSize, savedCount, formed, contents}
+use Rattle.demands.specs.Calls.{numbers, Action, put, hop, take, load, status, wish, drain, owes, save, Call}
+use Rattle.demands.specs.Calls.{onArea, setUp, opens, decode, encode}
 
 -- the number of devices, n at most, whose area has this length; 0 if there is none
 abbrev pub devicesUpTo : ℕ → ℕ → ℕ
@@ -23,19 +24,36 @@ devicesUpTo (suc n) size = cond (eqb size (areaSize (suc n))) (suc n) (devicesUp
 abbrev pub devicesAt : ℕ → ℕ
 devicesAt size = devicesUpTo mostDevices size
 
--- 1, Shape: the area's length isn't one of 1 to 15 devices, or not that of byte 0;
--- at set up the items' length isn't 12n for the n of the area's length
+-- the output of a save isn't exactly of the saved length
+abbrev pub badOutput : Action → List ℕ → Bool
+badOutput (put f) a = false
+badOutput (hop i) a = false
+badOutput take a = false
+badOutput (load i bs) a = false
+badOutput (status i s) a = false
+badOutput (wish i w) a = false
+badOutput (drain b) a = false
+badOutput owes a = false
+badOutput (save out) a = not (eqb (length (numbers out)) (savedSize (countIn a)))
+
+-- 1, Shape: the area's length isn't one of 1 to 15 devices, or not that of byte 0, or a save's output is wrong;
+-- at set up the items' length isn't 12n for the n of the area's length;
+-- at an opening the area's length isn't that of the number of devices in the save
 abbrev pub Shape : Call → List ℕ → Bool
-Shape (onArea c) a = eqb (devicesAt (length a)) 0 || not (eqb (length a) (areaSize (countIn a)))
+Shape (onArea c) a =
+    badOutput c a || (eqb (devicesAt (length a)) 0 || not (eqb (length a) (areaSize (countIn a))))
 Shape (setUp items) a = eqb (devicesAt (length a)) 0 || not
     (eqb (length (numbers items)) (itemSize * devicesAt (length a)))
+Shape (opens s) a = not (eqb (length a) (areaSize (savedCount (numbers s))))
 Shape (decode f) a = false
 Shape (encode k o c) a = false
 
--- 2, Unsound: the contents aren't sound; at set up an item isn't allowed, and the contents aren't looked at
+-- 2, Unsound: the contents aren't sound; at set up an item isn't allowed, at an opening what was saved isn't sound, and
+-- the contents aren't looked at
 abbrev pub Unsound : Call → List ℕ → Bool
 Unsound (onArea c) a = not (sound a)
 Unsound (setUp items) a = not (all allowed (parts itemSize (devicesAt (length a)) (numbers items)))
+Unsound (opens s) a = not (sound (contents (numbers s)))
 Unsound (decode f) a = false
 Unsound (encode k o c) a = false
 
@@ -49,6 +67,7 @@ NoDevice (status i s) a = leb (countIn a) i
 NoDevice (wish i w) a = leb (countIn a) i
 NoDevice (drain b) a = false
 NoDevice owes a = false
+NoDevice (save out) a = false
 
 -- a C1 that is not 0 or 1, or 1 on a kind without one
 abbrev pub badC1 : ℕ → ℕ → Bool
@@ -64,7 +83,9 @@ BadFrame (onArea (status i s)) = false
 BadFrame (onArea (wish i w)) = false
 BadFrame (onArea (drain b)) = false
 BadFrame (onArea owes) = false
+BadFrame (onArea (save out)) = false
 BadFrame (setUp items) = false
+BadFrame (opens s) = false
 BadFrame (decode f) = leb frames f
 BadFrame (encode k o c) = leb (offsetsOf k) o || badC1 k c
 
@@ -85,6 +106,7 @@ Empty (status i s) a = false
 Empty (wish i w) a = false
 Empty (drain b) a = false
 Empty owes a = false
+Empty (save out) a = false
 
 -- 6, Full: the link to add to holds four
 abbrev pub Full : Action → List ℕ → Bool
@@ -96,6 +118,7 @@ Full (status i s) a = false
 Full (wish i w) a = false
 Full (drain b) a = false
 Full owes a = false
+Full (save out) a = false
 
 -- device i lacks an ability
 abbrev pub lacks : ℕ → ℕ → List ℕ → Bool
@@ -111,6 +134,7 @@ NoAbility (status i s) a = lacks i sendStatus a
 NoAbility (wish i w) a = lacks i serviceRequest a
 NoAbility (drain b) a = false
 NoAbility owes a = false
+NoAbility (save out) a = false
 
 -- 8, TooLong: load over 32 bytes
 abbrev pub TooLong : Action → Bool
@@ -122,6 +146,7 @@ TooLong (status i s) = false
 TooLong (wish i w) = false
 TooLong (drain b) = false
 TooLong owes = false
+TooLong (save out) = false
 
 -- 9, Busy: load in talker state 2
 abbrev pub Busy : Action → List ℕ → Bool
@@ -133,33 +158,53 @@ Busy (status i s) a = false
 Busy (wish i w) a = false
 Busy (drain b) a = false
 Busy owes a = false
+Busy (save out) a = false
+
+-- 10, BadSave: what is to be opened isn't in the form of a save of 1 to 15 devices
+abbrev pub BadSave : Call → Bool
+BadSave (onArea c) = false
+BadSave (setUp items) = false
+BadSave (opens s) = not (formed mostDevices (numbers s))
+BadSave (decode f) = false
+BadSave (encode k o c) = false
 
 -- an action's condition, and no other call's
 abbrev pub ofAction : (Action → List ℕ → Bool) → Call → List ℕ → Bool
 ofAction test (onArea c) a = test c a
 ofAction test (setUp items) a = false
+ofAction test (opens s) a = false
 ofAction test (decode f) a = false
 ofAction test (encode k o c) a = false
 
--- the table: whether each condition holds, in the order of its number
-abbrev pub table : Call → List ℕ → List Bool
+-- a row of the table: a refusal's number, and whether its condition holds
+pub record Row : Type 0 where
+  pub number : ℕ
+  pub holds : Bool
+
+abbrev pub row : ℕ → Bool → Row
+row k test = record { number = k; holds = test }
+
+-- the table, in the order of the numbers, but 10 first: 02, a, asks for it before the others, and no call but an
+-- opening has it
+abbrev pub table : Call → List ℕ → List Row
 table c a =
-    Shape c a ∷
-    Unsound c a ∷
-    ofAction NoDevice c a ∷
-    BadFrame c ∷
-    ofAction Empty c a ∷
-    ofAction Full c a ∷
-    ofAction NoAbility c a ∷
-    ofAction (λ d x. TooLong d) c a ∷
-    ofAction Busy c a ∷
+    row 10 (BadSave c) ∷
+    row 1 (Shape c a) ∷
+    row 2 (Unsound c a) ∷
+    row 3 (ofAction NoDevice c a) ∷
+    row 4 (BadFrame c) ∷
+    row 5 (ofAction Empty c a) ∷
+    row 6 (ofAction Full c a) ∷
+    row 7 (ofAction NoAbility c a) ∷
+    row 8 (ofAction (λ d x. TooLong d) c a) ∷
+    row 9 (ofAction Busy c a) ∷
     []
 
--- the first number, from n on, whose condition holds; 0 if none does
-abbrev pub firstHolding : ℕ → List Bool → ℕ
-firstHolding n [] = 0
-firstHolding n (holds ∷ rest) = cond holds n (firstHolding (suc n) rest)
+-- the number of the first row whose condition holds; 0 if none does
+abbrev pub firstHolding : List Row → ℕ
+firstHolding [] = 0
+firstHolding (r ∷ rs) = cond (r .holds) (r .number) (firstHolding rs)
 
--- the lowest number whose condition holds
-abbrev pub lowest : Call → List ℕ → ℕ
-lowest c a = firstHolding 1 (table c a)
+-- the refusal that is due
+abbrev pub due : Call → List ℕ → ℕ
+due c a = firstHolding (table c a)

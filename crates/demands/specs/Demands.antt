@@ -1,9 +1,10 @@
--- The three demands on the model, and what 02, k, asks of the hops owed, over the very definitions that the contracts
--- of the exported functions cite.
+-- The three demands on the model, and what 02 asks of the hops owed (k) and of saved loops (a), over the very
+-- definitions that the contracts of the exported functions cite.
 -- It leans on Calls, Conditions, Drains, Histories (the crate teeth says what it shuts out); frame's Messages,
 -- Decoding, Coding, Laws; coding's Coding; device's Sent, and Take with the rules that it names; record_local's Local;
 -- record's Record, Parts, Sound, Fits; area's Sizes, Parts, Link, Loop, Lookup; calls' Outcome, Calls, Drain, SetUp,
--- Owed; order's Line, Flat, History, RightRound, Through, Owed, which have names of their own.
+-- Owed; saved's Saved, Calls, Laws; order's Line, Flat, History, RightRound, Through, Owed, which have names of their
+-- own.
 use Prim.Native.Nat.{ℕ, suc, _+_, _*_, _≤_, _<_}
 use mathlib.Core.Path.{_≡_}
 use mathlib.Core.List.{List, [], _∷_, _++_, tail}
@@ -22,25 +23,29 @@ use Rattle.area.specs.Loop.{countIn, loopOf, areaOf, judgeOf, device, link}
 use Rattle.calls.specs.Outcome.{After, after}
 use Rattle.calls.specs.Calls.{hopAnswer}
 use Rattle.calls.specs.SetUp.{poweredOn}
+use Rattle.saved.specs.Saved.{saved, contents}
+use Rattle.saved.specs.Laws.{SavedLong, OpenAfterSave, OpenOver, OneForm, SaveOpened, SavedOnce}
 use Rattle.order.specs.History.{callsIn, hopsIn, sumOver}
 use Rattle.order.specs.Owed.{owed}
-use Rattle.demands.specs.Calls.{Byte, numbers, Action, put, hop, take, drain, owes, Call, onArea, setUp, decode}
-use Rattle.demands.specs.Calls.{encode, Answer, plain, hopped, taken, owing, decoded, encoded, pil, refusalIn}
-use Rattle.demands.specs.Calls.{bare}
-use Rattle.demands.specs.Conditions.{devicesAt, lowest}
+use Rattle.demands.specs.Calls.{Byte, numbers, put, hop, take, drain, owes, save, Call, onArea, setUp, opens}
+use Rattle.demands.specs.Calls.{decode, encode, Answer, plain, hopped, taken, owing, saving, decoded, encoded}
+use Rattle.demands.specs.Calls.{pil, refusalIn, bare}
+use Rattle.demands.specs.Conditions.{devicesAt, due}
 use Rattle.demands.specs.Drains.{byHops}
-use Rattle.demands.specs.Histories.{areaLeft, framesPut, framesTaken, bytesHanded, hopsBy, hopsMade, callsRefused}
-use Rattle.demands.specs.Histories.{Local, calledBy, localCall, turnsOf, Drainless, turnsSeen, callsSeen, inTurn}
+use Rattle.demands.specs.Histories.{Step, away, stepped, areaLeft, framesPut, framesTaken, bytesHanded}
+use Rattle.demands.specs.Histories.{hopsBy, hopsMade, stepsRefused, Local, calledBy, localCall, turnsOf}
+use Rattle.demands.specs.Histories.{Drainless, turnsSeen, callsSeen, inTurn, allRound}
 
 -- ---- Demand 1: every call is refused exactly by the table
 
 -- A model of the calls, for every call with any arguments and every area:
 pub record Refuses (model : Call → List ℕ → After Answer) : Type 0 where
-  -- the refusal it answers is the lowest number whose condition holds, and 0 where none does, so that the call is done;
-  pub by-table : (c : Call) (a : List ℕ) → refusalIn (model c a .answer) ≡ lowest c a
-  -- where that is not 0, it answers the number and otherwise zeros, and the area stays as it was.
-  pub changes-nothing : (c : Call) (a : List ℕ) → (lowest c a ≡ 0 → ⊥) →
-      (model c a .answer ≡ bare c (lowest c a)) × (model c a .area ≡ a)
+  -- the refusal it answers is the first in the table whose condition holds, so the lowest but where a request gives
+  -- another order, and 0 where none does, so that the call is done;
+  pub by-table : (c : Call) (a : List ℕ) → refusalIn (model c a .answer) ≡ due c a
+  -- where that is not 0, it answers the number and otherwise zeros, and the area and a save's output stay as they were.
+  pub changes-nothing : (c : Call) (a : List ℕ) → (due c a ≡ 0 → ⊥) →
+      (model c a .answer ≡ bare c (due c a)) × (model c a .area ≡ a)
 
 abbrev pub Demand1 : Type 0
 Demand1 = Refuses pil
@@ -106,13 +111,19 @@ pub record Obeys (model : Call → List ℕ → After Answer) : Type 0 where
   pub tells-owed : (a : List ℕ) → Judged a →
       model (onArea owes) a ≡ after (owing (record { hops = hopsOwed a; refusal = 0 })) a
   -- a set-up that is not refused leaves power-on devices and empty links;
-  pub sets-up : (items : List Byte) (a : List ℕ) → lowest (setUp items) a ≡ 0 →
+  pub sets-up : (items : List Byte) (a : List ℕ) → due (setUp items) a ≡ 0 →
       model (setUp items) a ≡ after (plain 0) (areaOf (poweredOn (devicesAt (length a)) (numbers items)))
+  -- a save writes the area's saved form, and no byte of the area changes; an opening that is not refused leaves what
+  -- the save holds;
+  pub saves : (out : List Byte) (a : List ℕ) → due (onArea (save out)) a ≡ 0 →
+      model (onArea (save out)) a ≡ after (saving 0 (saved a)) a
+  pub opening : (s : List Byte) (a : List ℕ) → due (opens s) a ≡ 0 →
+      model (opens s) a ≡ after (plain 0) (contents (numbers s))
   -- the decoder answers a frame's kind, offset and C1, and the encoder, where it is not refused, the frame of these.
   pub decodes : (f : ℕ) (a : List ℕ) → f < frames →
       let m = decoding f in
       model (decode f) a ≡ after (decoded (record { offset = m .offset; refusal = 0; kind = m .kind; c1 = m .c1 })) a
-  pub encodes : (k o c : ℕ) (a : List ℕ) → lowest (encode k o c) a ≡ 0 →
+  pub encodes : (k o c : ℕ) (a : List ℕ) → due (encode k o c) a ≡ 0 →
       model (encode k o c) a ≡ after (encoded (record { frame = frameOf (message k o c); refusal = 0 })) a
 
 -- That the published table has the decoding's kind at every frame is the contract of `published::kind`.
@@ -130,48 +141,66 @@ pub record Demand2 : Type 0 where
 abbrev pub AllEmpty : List ℕ → Type 0
 AllEmpty a = (j : ℕ) → link (loopOf a) j ≡ []
 
--- A history comes to the same as each frame right round before the next, with the same frames and the same turns: a
--- device's own hops and the local calls that it accepted, in order, whatever other devices did in between.
-pub record InAnyOrder (a : List ℕ) (cs : List Action) : Type 0 where
+-- A history comes to the same as its frames in turn: those in the links, the nearer the tail the earlier, then those
+-- put, each right round before the next, with the same turns: a device's own hops and the local calls that it accepted,
+-- in order, whatever other devices did in between. It may hold refused calls, and loops put away and opened.
+pub record InAnyOrder (a : List ℕ) (ss : List Step) : Type 0 where
   -- right round no call is refused; the frames put and the turns are those of the history,
-  pub accepted : callsRefused a (inTurn a cs) ≡ 0
-  pub same-puts : framesPut a (inTurn a cs) ≡ framesPut a cs
-  pub same-turns : (i : ℕ) → turnsOf a (inTurn a cs) i ≡ turnsOf a cs i
+  pub accepted : stepsRefused a (inTurn a ss) ≡ 0
+  pub same-puts : framesPut a (inTurn a ss) ≡ framesPut a ss
+  pub same-turns : (i : ℕ) → turnsOf a (inTurn a ss) i ≡ turnsOf a ss i
   -- the same area is left, byte for byte,
-  pub same-area : areaLeft a (inTurn a cs) ≡ areaLeft a cs
+  pub same-area : areaLeft a (inTurn a ss) ≡ areaLeft a ss
   -- the same frames are taken, and each device is handed the same bytes with the same end bits.
-  pub same-taken : framesTaken a (inTurn a cs) ≡ framesTaken a cs
-  pub same-handed : (i : ℕ) → bytesHanded a (inTurn a cs) i ≡ bytesHanded a cs i
-  -- Hops made are frames times devices.
-  pub hops-made : hopsMade a cs ≡ length (framesPut a cs) * countIn a
+  pub same-taken : framesTaken a (inTurn a ss) ≡ framesTaken a ss
+  pub same-handed : (i : ℕ) → bytesHanded a (inTurn a ss) i ≡ bytesHanded a ss i
+  -- Hops made are those owed at first, and frames put times devices.
+  pub hops-made : hopsMade a ss ≡ hopsOwed a + length (framesPut a ss) * countIn a
 
--- From a freshly set-up loop: a set-up that is not refused, then calls in any order, some perhaps refused, that leave
--- all links empty
-abbrev pub Demand3 : Type 0
-Demand3 = (a : List ℕ) (items : List Byte) (cs : List Action) → lowest (setUp items) a ≡ 0 →
-    AllEmpty (areaLeft (pil (setUp items) a .area) cs) → InAnyOrder (pil (setUp items) a .area) cs
+-- From a freshly set-up loop no frame goes before those put: each goes right round before the next, and hops made are
+-- frames times devices.
+pub record FreshInAnyOrder (a : List ℕ) (ss : List Step) : Type 0 where
+  pub in-any-order : InAnyOrder a ss
+  pub right-round : inTurn a ss ≡ allRound a ss
+  pub hops-made : hopsMade a ss ≡ length (framesPut a ss) * countIn a
+
+pub record Demand3 : Type 0 where
+  -- From any area that has no refusal: steps in any order that leave all links empty
+  pub from-any-area : (a : List ℕ) (ss : List Step) → Judged a → AllEmpty (areaLeft a ss) → InAnyOrder a ss
+  -- and so from a set-up that is not refused, or from any opening that is not.
+  pub from-set-up : (a : List ℕ) (items : List Byte) (ss : List Step) → due (setUp items) a ≡ 0 →
+      AllEmpty (areaLeft (pil (setUp items) a .area) ss) → FreshInAnyOrder (pil (setUp items) a .area) ss
+  pub from-opening : (a : List ℕ) (s : List Byte) (ss : List Step) → due (opens s) a ≡ 0 →
+      AllEmpty (areaLeft (pil (opens s) a .area) ss) → InAnyOrder (pil (opens s) a .area) ss
+  -- A loop put away in an output, and opened in an area, of the right lengths is not refused: it is what it was.
+  pub put-away : (a : List ℕ) (out lent : List Byte) → Judged a → length (numbers out) ≡ 30 + 86 * countIn a →
+      length (numbers lent) ≡ length a → stepped (away out lent) a ≡ after (plain 0) a
+
+-- A set-up or an opening that is not refused leaves an area that has no refusal, so what follows, said of every such
+-- area, holds of what they leave.
+pub record StartsJudged : Type 0 where
+  pub set-up : (a : List ℕ) (items : List Byte) → due (setUp items) a ≡ 0 → Judged (pil (setUp items) a .area)
+  pub opening : (a : List ℕ) (s : List Byte) → due (opens s) a ≡ 0 → Judged (pil (opens s) a .area)
 
 -- The turns of a history are what its caller sees:
-pub record Turns (a : List ℕ) (cs : List Action) : Type 0 where
+pub record Turns (a : List ℕ) (ss : List Step) : Type 0 where
   -- without drains, the accepted hops and local calls that name the device;
-  pub all-seen : Drainless cs → (i : ℕ) → turnsOf a cs i ≡ turnsSeen a cs i
+  pub all-seen : Drainless ss → (i : ℕ) → turnsOf a ss i ≡ turnsSeen a ss i
   -- in any history, the local calls in them are those answered 0, in order,
-  pub calls-seen : (i : ℕ) → callsIn (turnsOf a cs i) ≡ callsSeen a cs i
+  pub calls-seen : (i : ℕ) → callsIn (turnsOf a ss i) ≡ callsSeen a ss i
   -- and the hops in them, of all devices together, are the hops made.
-  pub hops-add-up : sumOver (countIn a) (λ i. hopsIn (turnsOf a cs i)) ≡ hopsMade a cs
+  pub hops-add-up : sumOver (countIn a) (λ i. hopsIn (turnsOf a ss i)) ≡ hopsMade a ss
 
 abbrev pub TurnsAreSeen : Type 0
-TurnsAreSeen = (a : List ℕ) (items : List Byte) (cs : List Action) → lowest (setUp items) a ≡ 0 →
-    Turns (pil (setUp items) a .area) cs
+TurnsAreSeen = (a : List ℕ) (ss : List Step) → Judged a → Turns a ss
 
--- So two such histories with the same frames and the same turns agree
+-- So two histories from one area with the same frames and the same turns agree
 abbrev pub Agreement : Type 0
-Agreement = (a : List ℕ) (items : List Byte) (cs ds : List Action) → lowest (setUp items) a ≡ 0 →
-    let x = pil (setUp items) a .area in
-    AllEmpty (areaLeft x cs) → AllEmpty (areaLeft x ds) → framesPut x cs ≡ framesPut x ds →
-    ((i : ℕ) → turnsOf x cs i ≡ turnsOf x ds i) →
-    (areaLeft x cs ≡ areaLeft x ds) × (framesTaken x cs ≡ framesTaken x ds) ×
-    ((i : ℕ) → bytesHanded x cs i ≡ bytesHanded x ds i) × (hopsMade x cs ≡ hopsMade x ds)
+Agreement = (a : List ℕ) (ss rs : List Step) → Judged a →
+    AllEmpty (areaLeft a ss) → AllEmpty (areaLeft a rs) → framesPut a ss ≡ framesPut a rs →
+    ((i : ℕ) → turnsOf a ss i ≡ turnsOf a rs i) →
+    (areaLeft a ss ≡ areaLeft a rs) × (framesTaken a ss ≡ framesTaken a rs) ×
+    ((i : ℕ) → bytesHanded a ss i ≡ bytesHanded a rs i) × (hopsMade a ss ≡ hopsMade a rs)
 
 -- ---- Hops owed (02, k). What calls leave of them, for any bytes as the area:
 
@@ -190,7 +219,7 @@ abbrev pub OwedAfterPut : Type 0
 OwedAfterPut = (f : ℕ) (a : List ℕ) → Bytes a → refusalIn (pil (onArea (put f)) a .answer) ≡ 0 →
     hopsOwed (pil (onArea (put f)) a .area) ≡ hopsOwed a + countIn a
 
--- a take, a local call and every refused call leave them,
+-- a take, a local call, what only reads and every refused call leave them,
 abbrev pub OwedAfterTake : Type 0
 OwedAfterTake = (a : List ℕ) → Bytes a → hopsOwed (pil (onArea take) a .area) ≡ hopsOwed a
 
@@ -202,29 +231,34 @@ abbrev pub OwedAfterRefusal : Type 0
 OwedAfterRefusal = (c : Call) (a : List ℕ) → (refusalIn (pil c a .answer) ≡ 0 → ⊥) →
     hopsOwed (pil c a .area) ≡ hopsOwed a
 
--- and an accepted set-up leaves none.
+-- an accepted set-up leaves none,
 abbrev pub OwedAfterSetUp : Type 0
-OwedAfterSetUp = (items : List Byte) (a : List ℕ) → lowest (setUp items) a ≡ 0 →
+OwedAfterSetUp = (items : List Byte) (a : List ℕ) → due (setUp items) a ≡ 0 →
     hopsOwed (pil (setUp items) a .area) ≡ 0
+
+-- and an accepted opening leaves those of the area that was saved.
+abbrev pub OwedAfterOpening : Type 0
+OwedAfterOpening = (s : List Byte) (a b : List ℕ) → Judged b → numbers s ≡ saved b → due (opens s) a ≡ 0 →
+    hopsOwed (pil (opens s) a .area) ≡ hopsOwed b
 
 -- They are answered after any history from an area that has no refusal, since it still has none.
 abbrev pub StaysJudged : Type 0
-StaysJudged = (a : List ℕ) (cs : List Action) → Judged a → Judged (areaLeft a cs)
+StaysJudged = (a : List ℕ) (ss : List Step) → Judged a → Judged (areaLeft a ss)
 
 -- They are never more than 2n(n + 1).
 abbrev pub OwedAtMost : Type 0
 OwedAtMost = (a : List ℕ) → Judged a → hopsOwed a ≤ 2 * (countIn a * (countIn a + 1))
 
 -- Over any history, refused calls among it: the hops made, drains' included, and those owed then are those owed at
--- first and n for each frame put. A history has no set-up in it.
+-- first and n for each frame put. A history has no set-up in it, and no opening but of what was saved just before.
 abbrev pub OwedOver : Type 0
-OwedOver = (a : List ℕ) (cs : List Action) → Judged a →
-    hopsMade a cs + hopsOwed (areaLeft a cs) ≡ hopsOwed a + length (framesPut a cs) * countIn a
+OwedOver = (a : List ℕ) (ss : List Step) → Judged a →
+    hopsMade a ss + hopsOwed (areaLeft a ss) ≡ hopsOwed a + length (framesPut a ss) * countIn a
 
--- So where no put is accepted the hops made are at most 2n(n + 1), however many takes there are.
+-- So in a history with no accepted put the hops made are at most 2n(n + 1), however many takes there are.
 abbrev pub HopsAtMost : Type 0
-HopsAtMost = (a : List ℕ) (cs : List Action) → Judged a → framesPut a cs ≡ [] →
-    hopsMade a cs ≤ 2 * (countIn a * (countIn a + 1))
+HopsAtMost = (a : List ℕ) (ss : List Step) → Judged a → framesPut a ss ≡ [] →
+    hopsMade a ss ≤ 2 * (countIn a * (countIn a + 1))
 
 -- Some hop or the take is accepted
 pub data Progress (a : List ℕ) : Type 0 where
@@ -234,3 +268,15 @@ pub data Progress (a : List ℕ) : Type 0 where
 -- while any link holds a frame.
 abbrev pub NeverStuck : Type 0
 NeverStuck = (a : List ℕ) (j : ℕ) → Judged a → (link (loopOf a) j ≡ [] → ⊥) → Progress a
+
+-- ---- Saved loops (02, a)
+
+-- Opened in any area of as many bytes, a save gives back the area that was saved; and a save that opens is the one
+-- saved form of what it opens to.
+pub record SavedLoops : Type 0 where
+  pub saved-long : SavedLong
+  pub open-after-save : OpenAfterSave
+  pub open-over : OpenOver
+  pub one-form : OneForm
+  pub save-opened : SaveOpened
+  pub saved-once : SavedOnce

@@ -8,12 +8,12 @@ use lib.Dec.{eqb}
 use Rattle.area.specs.Loop.{countIn}
 use Rattle.calls.specs.Outcome.{After, after}
 use Rattle.demands.specs.Calls.{hop, Call, onArea, Answer, drained}
-use Rattle.demands.specs.Conditions.{lowest}
+use Rattle.demands.specs.Conditions.{due}
 use Rattle.demands.specs.Histories.{Got, handedBy}
 
 -- device i can hop: no condition of the refusal table holds for its hop
 abbrev pub can : List ℕ → ℕ → Bool
-can a i = eqb (lowest (onArea (hop i)) a) 0
+can a i = eqb (due (onArea (hop i)) a) 0
 
 -- the highest-numbered of the first n devices that can
 abbrev pub highestOf : List ℕ → ℕ → Option ℕ

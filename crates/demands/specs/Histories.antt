@@ -1,5 +1,5 @@
--- Histories of calls on an area: what a caller in C reads off their answers, the turns of devices, and the history that
--- sends each frame right round.
+-- Histories of calls on an area, in which its loop may be put away and opened: what a caller in C reads off their
+-- answers, the turns of devices, and the history that sends each frame right round.
 use Prim.Native.Nat.{ℕ, _+_}
 use mathlib.Core.Path.{_≡_}
 use mathlib.Core.Bool.{Bool, true, false, cond, _&&_}
@@ -15,19 +15,43 @@ use Rattle.device.specs.declared.Handed.the-variants as handed
 use Rattle.record_local.specs.Local.{Called}
 use Rattle.area.specs.Sizes.{depth}
 use Rattle.area.specs.Loop.{countIn, loopOf}
+use Rattle.calls.specs.Outcome.{After, after}
+use Rattle.saved.specs.Calls.{saveOf, openOf}
 use Rattle.order.specs.Line as line
 use Rattle.order.specs.Flat.{lineUp}
 use Rattle.order.specs.History.{Turn, hops, does, turns}
-use Rattle.order.specs.RightRound.{first, rightRound}
+use Rattle.order.specs.RightRound.{first, rightRound, oneByOne}
 use Rattle.order.specs.Through.{Every}
-use Rattle.demands.specs.Calls.{Byte, numbers, Action, put, hop, take, load, status, wish, drain, owes, Answer}
-use Rattle.demands.specs.Calls.{plain, hopped, taken, drained, owing, decoded, encoded, acts, refusalIn}
+use Rattle.demands.specs.Calls.{Byte, numbers, Action, put, hop, take, load, status, wish, drain, owes, save}
+use Rattle.demands.specs.Calls.{Answer, plain, hopped, taken, drained, owing, saving, decoded, encoded, told}
+use Rattle.demands.specs.Calls.{acts, refusalIn}
 
--- ---- A history: one call after the other. The area that it leaves, and the answers
+-- ---- A history: one step after the other
 
-abbrev pub history : List ℕ → List Action → List ℕ × List Answer
+-- a call; or the loop put away and what was saved opened at once, with what the output and the area lent for the
+-- opening held before
+pub data Step : Type 0 where
+  call : Action → Step
+  away : (out lent : List Byte) → Step
+
+-- The history goes on in the area that was opened or, where the opening is refused, in the one that it had
+abbrev pub orStays : List ℕ → After ℕ → After ℕ
+orStays a o = after (o .answer) (cond (eqb (o .answer) 0) (o .area) a)
+
+-- and so too where the save is refused: then nothing is opened.
+abbrev pub putAway : (a out lent : List ℕ) → After ℕ
+putAway a out lent =
+    let s = saveOf a out in cond (eqb (s .answer) 0) (orStays a (openOf lent (s .area))) (after (s .answer) a)
+
+-- what a step answers and leaves
+abbrev pub stepped : Step → List ℕ → After Answer
+stepped (call c) a = acts c a
+stepped (away out lent) a = told plain (putAway a (numbers out) (numbers lent))
+
+-- the area that a history leaves, and the answers
+abbrev pub history : List ℕ → List Step → List ℕ × List Answer
 history a [] = (a, [])
-history a (c ∷ cs) = ((history (acts c a .area) cs) .0, acts c a .answer ∷ (history (acts c a .area) cs) .1)
+history a (s ∷ ss) = ((history (stepped s a .area) ss) .0, stepped s a .answer ∷ (history (stepped s a .area) ss) .1)
 
 -- ---- What is read off each answer
 
@@ -53,6 +77,7 @@ putBy (status i s) r = []
 putBy (wish i w) r = []
 putBy (drain b) r = []
 putBy owes r = []
+putBy (save out) r = []
 
 -- the frame that a take gave
 abbrev pub takenBy : Action → Answer → List ℕ
@@ -61,6 +86,7 @@ takenBy c (hopped r) = []
 takenBy c (taken r) = if (eqb (r .refusal) 0) (r .frame)
 takenBy c (drained r) = []
 takenBy c (owing r) = []
+takenBy c (saving k out) = []
 takenBy c (decoded r) = []
 takenBy c (encoded r) = []
 
@@ -74,6 +100,7 @@ hopper (status i s) = 0
 hopper (wish i w) = 0
 hopper (drain b) = 0
 hopper owes = 0
+hopper (save out) = 0
 
 -- the byte handed to device i, by a hop or at the end of a drain
 abbrev pub handedBy : ℕ → Action → Answer → List Got
@@ -82,6 +109,7 @@ handedBy i c (hopped r) = if (eqb i (hopper c) && eqb (r .handed) 1) (got (r .by
 handedBy i c (taken r) = []
 handedBy i c (drained r) = if (eqb i (r .device) && eqb (r .reason) 2) (got (r .byte) (r .end))
 handedBy i c (owing r) = []
+handedBy i c (saving k out) = []
 handedBy i c (decoded r) = []
 handedBy i c (encoded r) = []
 
@@ -92,43 +120,49 @@ hopsBy c (hopped r) = cond (eqb (r .refusal) 0) 1 0
 hopsBy c (taken r) = 0
 hopsBy c (drained r) = r .hops
 hopsBy c (owing r) = 0
+hopsBy c (saving k out) = 0
 hopsBy c (decoded r) = 0
 hopsBy c (encoded r) = 0
 
--- the refused calls
-abbrev pub refusedBy : Action → Answer → ℕ
-refusedBy c r = cond (eqb (refusalIn r) 0) 0 1
+-- the refused steps
+abbrev pub refusedBy : Step → Answer → ℕ
+refusedBy s r = cond (eqb (refusalIn r) 0) 0 1
 
 -- ---- and off a whole history on an area
 
-abbrev pub each : {A : Type 0} → (Action → Answer → List A) → List Action → List Answer → List A
+-- what is read off a call, and nothing where a loop was put away
+abbrev pub ofCall : {A : Type 0} → A → (Action → Answer → A) → Step → Answer → A
+ofCall nothing g (call c) r = g c r
+ofCall nothing g (away out lent) r = nothing
+
+abbrev pub each : {A : Type 0} → (Step → Answer → List A) → List Step → List Answer → List A
 each g [] rs = []
-each g (c ∷ cs) [] = []
-each g (c ∷ cs) (r ∷ rs) = g c r ++ each g cs rs
+each g (s ∷ ss) [] = []
+each g (s ∷ ss) (r ∷ rs) = g s r ++ each g ss rs
 
-abbrev pub total : (Action → Answer → ℕ) → List Action → List Answer → ℕ
+abbrev pub total : (Step → Answer → ℕ) → List Step → List Answer → ℕ
 total g [] rs = 0
-total g (c ∷ cs) [] = 0
-total g (c ∷ cs) (r ∷ rs) = g c r + total g cs rs
+total g (s ∷ ss) [] = 0
+total g (s ∷ ss) (r ∷ rs) = g s r + total g ss rs
 
-module _ (a : List ℕ) (cs : List Action) where
+module _ (a : List ℕ) (ss : List Step) where
   abbrev pub areaLeft : List ℕ
-  areaLeft = (history a cs) .0
+  areaLeft = (history a ss) .0
 
   abbrev pub framesPut : List ℕ
-  framesPut = each putBy cs ((history a cs) .1)
+  framesPut = each (ofCall [] putBy) ss ((history a ss) .1)
 
   abbrev pub framesTaken : List ℕ
-  framesTaken = each takenBy cs ((history a cs) .1)
+  framesTaken = each (ofCall [] takenBy) ss ((history a ss) .1)
 
   abbrev pub bytesHanded : ℕ → List Got
-  bytesHanded i = each (handedBy i) cs ((history a cs) .1)
+  bytesHanded i = each (ofCall [] (handedBy i)) ss ((history a ss) .1)
 
   abbrev pub hopsMade : ℕ
-  hopsMade = total hopsBy cs ((history a cs) .1)
+  hopsMade = total (ofCall 0 hopsBy) ss ((history a ss) .1)
 
-  abbrev pub callsRefused : ℕ
-  callsRefused = total refusedBy cs ((history a cs) .1)
+  abbrev pub stepsRefused : ℕ
+  stepsRefused = total refusedBy ss ((history a ss) .1)
 
 -- ---- The devices' turns. A drain does not answer which devices hopped, so turns are read off the run of the line of
 -- devices
@@ -185,18 +219,24 @@ calls (status i s) = line.local i (toStatus s) ∷ []
 calls (wish i w) = line.local i (toWish w) ∷ []
 calls (drain b) = line.drain b ∷ []
 calls owes = []
+calls (save out) = []
 
-abbrev pub allCalls : List Action → List (line.Call papers)
+-- those of a step; a loop put away and opened is none
+abbrev pub stepCalls : Step → List (line.Call papers)
+stepCalls (call c) = calls c
+stepCalls (away out lent) = []
+
+abbrev pub allCalls : List Step → List (line.Call papers)
 allCalls [] = []
-allCalls (c ∷ cs) = calls c ++ allCalls cs
+allCalls (s ∷ ss) = stepCalls s ++ allCalls ss
 
 -- the line of an area's devices and links
 abbrev pub lineOf : List ℕ → line.Loop papers
 lineOf a = lineUp (loopOf a .links) (loopOf a .devices)
 
 -- the turns of device i: its own hops and the local calls that it accepted, in order
-abbrev pub turnsOf : List ℕ → List Action → ℕ → List (Turn papers)
-turnsOf a cs i = turns ((line.run (lineOf a) (allCalls cs)) .1) i
+abbrev pub turnsOf : List ℕ → List Step → ℕ → List (Turn papers)
+turnsOf a ss i = turns ((line.run (lineOf a) (allCalls ss)) .1) i
 
 -- ---- and what a caller sees of them
 
@@ -210,6 +250,7 @@ hopSeen i (status j s) r = []
 hopSeen i (wish j w) r = []
 hopSeen i (drain b) r = []
 hopSeen i owes r = []
+hopSeen i (save out) r = []
 
 -- the local call that device i accepted
 abbrev pub callSeen : ℕ → Action → Answer → List Local
@@ -221,6 +262,7 @@ callSeen i (status j s) r = if (eqb i j && eqb (refusalIn r) 0) (toStatus s)
 callSeen i (wish j w) r = if (eqb i j && eqb (refusalIn r) 0) (toWish w)
 callSeen i (drain b) r = []
 callSeen i owes r = []
+callSeen i (save out) r = []
 
 -- the turn of device i
 abbrev pub turnSeen : ℕ → Action → Answer → List (Turn papers)
@@ -235,21 +277,26 @@ isDrain (status i s) = false
 isDrain (wish i w) = false
 isDrain (drain b) = true
 isDrain owes = false
+isDrain (save out) = false
+
+abbrev pub drains : Step → Bool
+drains (call c) = isDrain c
+drains (away out lent) = false
 
 -- no call of a history is a drain
-abbrev pub Drainless : List Action → Type 0
-Drainless cs = Every (λ c. isDrain c ≡ false) cs
+abbrev pub Drainless : List Step → Type 0
+Drainless ss = Every (λ s. drains s ≡ false) ss
 
-module _ (a : List ℕ) (cs : List Action) where
+module _ (a : List ℕ) (ss : List Step) where
   abbrev pub turnsSeen : ℕ → List (Turn papers)
-  turnsSeen i = each (turnSeen i) cs ((history a cs) .1)
+  turnsSeen i = each (ofCall [] (turnSeen i)) ss ((history a ss) .1)
 
   abbrev pub callsSeen : ℕ → List Local
-  callsSeen i = each (callSeen i) cs ((history a cs) .1)
+  callsSeen i = each (ofCall [] (callSeen i)) ss ((history a ss) .1)
 
 -- ---- Each frame right round before the next
 
--- a call of the line as an action
+-- a call of the line as an action, and several as steps
 abbrev pub action : line.Call papers → Action
 action (line.put f) = put f
 action (line.hop i) = hop i
@@ -257,7 +304,17 @@ action line.take = take
 action (line.local i c) = localCall i c
 action (line.drain b) = drain b
 
--- The same frames and the same turns: put; for each device its local calls up to there, then its hop; take; the next
--- frame; at the end the local calls that are left.
-abbrev pub inTurn : List ℕ → List Action → List Action
-inTurn a cs = map action (rightRound (framesPut a cs) (first (countIn a) (turnsOf a cs)))
+abbrev pub asSteps : List (line.Call papers) → List Step
+asSteps cs = map (λ c. call (action c)) cs
+
+-- The same frames and the same turns, in turn:
+module _ (a : List ℕ) (ss : List Step) where
+  -- Where no link holds a frame: put; for each device its local calls up to there, then its hop; take; the next frame;
+  -- at the end the local calls that are left.
+  abbrev pub allRound : List Step
+  allRound = asSteps (rightRound (framesPut a ss) (first (countIn a) (turnsOf a ss)))
+
+  -- Where some do, their frames go before that, the nearer the tail the earlier: for each device ahead its local calls
+  -- up to there, then its hop; take.
+  abbrev pub inTurn : List Step
+  inTurn = asSteps (oneByOne (lineOf a) (framesPut a ss) (first (countIn a) (turnsOf a ss)))

@@ -1,4 +1,4 @@
--- The three demands and the hops owed: Demands is the page to read, and the others are what it speaks of.
+-- The three demands, the hops owed and saved loops: Demands is the page to read, and the others are what it speaks of.
 pub mod Calls
 pub mod Conditions
 pub mod Histories

@@ -14,7 +14,7 @@ ghost use Rattle.area.specs.Parts.{parts, all};
 ghost use Rattle.area.specs.Link.{soundSlot, soundLink};
 ghost use Rattle.area.specs.Loop.{Shaped, sound};
 
-fn records_sound(records: &[u8], n: usize) -> bool
+pub fn records_sound(records: &[u8], n: usize) -> bool
     requires { ⌜ recordSize * n ≤ length (now records) ⌝ }
     ensures { λ r. ⌜ r ≡ all soundRecord (parts recordSize n (now (records .entry))) ⌝ }
 {
@@ -69,7 +69,7 @@ fn link_sound(link: &[u8]) -> bool
     frames_sound(link)
 }
 
-fn links_sound(links: &[u8], n: usize) -> bool
+pub fn links_sound(links: &[u8], n: usize) -> bool
     requires { ⌜ linkSize * n ≤ length (now links) ⌝ }
     ensures { λ r. ⌜ r ≡ all soundLink (parts linkSize n (now (links .entry))) ⌝ }
 {
@@ -86,7 +86,7 @@ fn links_sound(links: &[u8], n: usize) -> bool
 }
 
 // Bytes 1 to 7 are zero.
-fn header_sound(area: &[u8]) -> bool
+pub fn header_sound(area: &[u8]) -> bool
     requires { ⌜ headerSize ≤ length (now area) ⌝ }
     ensures { λ r. ⌜ r ≡ zeros (bytesFrom 1 7 (now (area .entry))) ⌝ }
 {

@@ -1,5 +1,5 @@
 // An area's refusal as such: its shape, then its contents.
-mod contents;
+pub mod contents;
 
 use crate::contents::contents_sound;
 use area::MOST_DEVICES;
@@ -10,7 +10,7 @@ ghost use mathlib.Core.Path.{_≡_};
 ghost use Rattle.area.specs.Loop.{shaped, judgeOf};
 
 // The length is that of byte 0.
-fn shape_right(area: &[u8]) -> bool
+pub fn shape_right(area: &[u8]) -> bool
     ensures { λ r. ⌜ r ≡ shaped (now (area .entry)) ⌝ }
 {
     if area.len() == 0 {

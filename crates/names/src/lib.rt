@@ -18,7 +18,7 @@ pub fn kind(number: u64) {
     }
 }
 
-// Refusals 0 to 9, 0 for none.
+// Refusals 0 to 10, 0 for none.
 pub fn refusal(number: u64) {
     match number {
         0 => text(b"accepted"),
@@ -31,6 +31,7 @@ pub fn refusal(number: u64) {
         7 => text(b"no ability: the device cannot do that"),
         8 => text(b"too long: more than 32 bytes"),
         9 => text(b"busy: the device is sending data"),
+        10 => text(b"bad save: no saved loop, or not all of one"),
         _ => text(b"?"),
     }
 }

@@ -1,5 +1,6 @@
--- Empty links: a loop just set up has them, it owes nothing, and its first link takes a frame.
-use Prim.Native.Nat.{suc}
+-- Empty links: a loop just set up has them, it owes nothing, no frame goes out before those put, and its first link
+-- takes a frame.
+use Prim.Native.Nat.{ℕ, suc}
 use native.Mathlib.Omega.{arith}
 use mathlib.Core.Path.{_≡_, refl, ap}
 use mathlib.Core.Bool.{Bool, true, cond}
@@ -10,6 +11,8 @@ use lib.Dec.{T, ltb, lt→ltb}
 use Rattle.order.specs.Line.{Line, Loop, tail, cell, idle, devices, push}
 use Rattle.order.specs.Flat.{linksOf, statesOf}
 use Rattle.order.specs.Owed.{owed}
+use Rattle.order.specs.History.{Turn}
+use Rattle.order.specs.RightRound.{leftAfter, clear, rightRound, oneByOne}
 
 has-room : {A : Type 0} (b : Bool) → T b → (x : A) → cond b (some x) none ≡ some x
 has-room true u x = refl
@@ -32,7 +35,7 @@ module _ {L : Line} where
   push-onto (cell q s r) f z = rw (z .0) (has-room (ltb 0 depth) (lt→ltb 0 depth deep) (cell (f ∷ []) s r))
 
 module _ (L : Line) where
-  open Line L using (State)
+  open Line L using (State, Frame)
 
   pub idle-empty : (ss : List State) → Empty {L = L} (idle ss)
   idle-empty [] = refl
@@ -49,3 +52,18 @@ module _ (L : Line) where
   pub idle-states : (ss : List State) → statesOf {L = L} (idle ss) ≡ ss
   idle-states [] = refl
   idle-states (s ∷ ss) = ap (λ (x : List State). s ∷ x) (idle-states ss)
+
+  -- right round is all that there is to do
+  idle-clear : (i : ℕ) (ss : List State) (ts : List (List (Turn L))) → clear i (idle ss) ts ≡ []
+  idle-clear i [] ts = refl
+  idle-clear i (s ∷ ss) [] = refl
+  idle-clear i (s ∷ ss) (t ∷ ts) = rw (idle-clear (suc i) ss ts)
+
+  idle-left : (ss : List State) (ts : List (List (Turn L))) → leftAfter (idle ss) ts ≡ ts
+  idle-left [] ts = refl
+  idle-left (s ∷ ss) [] = refl
+  idle-left (s ∷ ss) (t ∷ ts) = ap (λ (u : List (List (Turn L))). t ∷ u) (idle-left ss ts)
+
+  pub idle-round : (ss : List State) (fs : List Frame) (ts : List (List (Turn L))) →
+      oneByOne (idle ss) fs ts ≡ rightRound fs ts
+  idle-round ss fs ts = rw (idle-clear 0 ss ts, idle-left ss ts)

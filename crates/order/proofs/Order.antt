@@ -3,15 +3,16 @@
 use native.Mathlib.Omega.{arith}
 use mathlib.Core.Path.{_≡_, sym, _∙_, ap}
 use mathlib.Core.List.{List}
-use Rattle.order.specs.Line.{Line, Loop, idle, Call, Event, run}
+use Rattle.order.specs.Line.{Line, Loop, idle, devices, Call, Event, run}
 use Rattle.order.specs.History.{puts, turns}
+use Rattle.order.specs.RightRound.{first}
 use Rattle.order.specs.Order.{SameAs, AnyOrder, FromAnyLoop, Agree}
 use Rattle.order.specs.Flat.{statesOf}
 use Rattle.order.proofs.Streams.{Steps, run-ok, steps-flows, steps-count}
-use Rattle.order.proofs.Idle.{idle-empty, idle-owed, idle-devices, idle-states}
+use Rattle.order.proofs.Idle.{idle-empty, idle-owed, idle-devices, idle-states, idle-round}
 use Rattle.order.proofs.Agree.{two-ways}
 use Rattle.order.proofs.Owed.{owed-law}
-use Rattle.order.proofs.Rounds.{Reference, rounds, all-rounds}
+use Rattle.order.proofs.Rounds.{Reference, all-rounds}
 
 module _ (L : Line) where
   open Line L using (State)
@@ -42,15 +43,15 @@ module _ (L : Line) where
         same-handed = g .2;
       }
 
-  pub any-order : AnyOrder L
-  any-order ss ss′ cs es e =
-      let u : Steps (idle ss) es (idle ss′) = steps-of cs e in (
-        same-as ss′ u
-            (rw (idle-devices L ss) at (rounds (puts es) (steps-flows u) (idle-empty L ss) (idle-empty L ss′))),
-        omega (arith, rw (idle-devices L ss) at (steps-count u), idle-owed L ss, idle-owed L ss′),
-      )
-
   pub from-any-loop : FromAnyLoop L
   from-any-loop l ss′ cs es e =
       let u : Steps l es (idle ss′) = steps-of cs e in
       (same-as ss′ u (all-rounds (steps-flows u) (idle-empty L ss′)), omega (arith, steps-count u, idle-owed L ss′))
+
+  -- a loop just set up owes nothing, and none of its frames goes first
+  pub any-order : AnyOrder L
+  any-order ss ss′ cs es e =
+      let u = from-any-loop (idle ss) ss′ cs es e in (
+        rw (idle-round L ss (puts es) (first (devices {L = L} (idle ss)) (turns es)), idle-devices L ss) at (u .0),
+        omega (arith, rw (idle-devices L ss) at (u .1), idle-owed L ss),
+      )

@@ -238,7 +238,7 @@ module _ {L : Line} where
   row-then T n q X Y start l′ w ds v = rw (first-after n T)
       (rw append-assoc at (moves-then T (afterAll T) Y (ds (first n (afterAll T))) (w .moves) (w .turned) v))
 
-  pub rounds : {T : ℕ → List (Turn L)} {G : ℕ → List Byte} {o : List Frame} {l l′ : Loop L} (X : List Frame)
+  rounds : {T : ℕ → List (Turn L)} {G : ℕ → List Byte} {o : List Frame} {l l′ : Loop L} (X : List Frame)
       → Flows T G o X l l′ → Empty l → Empty l′ → Reference T X (rightRound X (first (devices l) T)) l l′
   rounds {T = T} {l = l} {l′ = l′} [] k z z′ = let w = trail k refl z z′ in
       rw append-nil at

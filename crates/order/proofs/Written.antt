@@ -76,10 +76,15 @@ module _ (L : Line) (P : L .Frame → Type 0) where
   clear-fair i (cell q s r) (t ∷ ts) = every-append (FairCall P) (clear (suc i) r ts) _
       (clear-fair (suc i) r ts) (onward-fair i (length q) (t ∷ leftAfter r ts))
 
-  pub round-fair : (fs : List Frame) (ts : List (List (Turn L))) → Every P fs → Every (FairCall P) (rightRound fs ts)
+  round-fair : (fs : List Frame) (ts : List (List (Turn L))) → Every P fs → Every (FairCall P) (rightRound fs ts)
   round-fair [] ts u = finish-fair 0 ts
   round-fair (f ∷ fs) ts u =
       (u .0, every-append (FairCall P) (past 0 ts) _ (past-fair 0 ts) (tt, round-fair fs (map after ts) (u .1)))
+
+  pub one-by-one-fair : (l : Loop L) (fs : List Frame) (ts : List (List (Turn L))) → Every P fs →
+      Every (FairCall P) (oneByOne l fs ts)
+  one-by-one-fair l fs ts u =
+      every-append (FairCall P) (clear 0 l ts) _ (clear-fair 0 l ts) (round-fair fs (leftAfter l ts) u)
 
 module _ {L : Line} (R : Rendering L) (W : Writing R) where
   open Rendering R using (Op, calls)
@@ -94,9 +99,7 @@ module _ {L : Line} (R : Rendering L) (W : Writing R) where
   writes-all (c ∷ cs) u = rw (writes c (u .0), writes-all cs (u .1))
 
   pub written : Written R W
-  written l os ts = writes-all (oneByOne l fs ts)
-      (every-append (FairCall Fair) (clear 0 l ts) _ (clear-fair L Fair 0 l ts)
-      (round-fair L Fair fs (leftAfter l ts) fair-puts))
+  written l os ts = writes-all (oneByOne l fs ts) (one-by-one-fair L Fair l fs ts fair-puts)
     where
       fs : List (L .Frame)
       fs = puts ((run l (callsOf R os)) .1)

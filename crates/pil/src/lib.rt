@@ -12,6 +12,7 @@ ghost use Rattle.calls.specs.Calls.{putOf, takeOf, hopOf, loadOf, statusOf, wis
 ghost use Rattle.calls.specs.Drain.{drainOf};
 ghost use Rattle.calls.specs.Owed.{owedOf};
 ghost use Rattle.calls.specs.SetUp.{setUpOf};
+ghost use Rattle.saved.specs.Calls.{saveOf, openOf};
 ghost use Rattle.coding.specs.Coding.{decodeAnswer, encodeAnswer};
 
 #[no_mangle]
@@ -89,4 +90,18 @@ pub extern "C" fn pil_encode(kind: u64, offset: u64, c1: u64) -> EncodeAnswer
     ensures { λ r. ⌜ r ≡ encodeAnswer kind offset c1 ⌝ }
 {
     coding::encode(kind, offset, c1)
+}
+
+#[no_mangle]
+pub extern "C" fn pil_save(area: &[u8], save: &mut [u8]) -> u8
+    ensures { λ r. ⌜ Is (saveOf (now (area .entry)) (now (save .entry))) r (now (save .exit)) ⌝ }
+{
+    save::save(area, save)
+}
+
+#[no_mangle]
+pub extern "C" fn pil_open(area: &mut [u8], save: &[u8]) -> u8
+    ensures { λ r. ⌜ Is (openOf (now (area .entry)) (now (save .entry))) r (now (area .exit)) ⌝ }
+{
+    open::open(area, save)
 }

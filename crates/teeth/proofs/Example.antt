@@ -20,6 +20,8 @@ use Rattle.calls.specs.Outcome.{callOf}
 use Rattle.calls.specs.Calls.{putIn, takeIn, hopIn, localIn}
 use Rattle.calls.specs.Drain.{canHop, highest, drainFrom}
 use Rattle.calls.specs.SetUp.{itemsFit, setUpOf}
+use Rattle.saved.specs.Saved.{headOf, recorded, saved, stands, isOf, headed, formed, contents}
+use Rattle.saved.specs.Calls.{saveOf, openWith}
 use Rattle.demands.specs.Histories.{areaLeft}
 use Rattle.demands.specs.Demands.{AllEmpty}
 use Rattle.teeth.specs.Example.{fresh, mixed, Example}
@@ -28,7 +30,8 @@ empty : AllEmpty (areaLeft fresh mixed)
 unfolding messages kindAt lookup within firstIn firstOf hasC1 offsetIn c1In choose powerOn bytesFrom lad tad aau
     marked requested polls sst nrd aad returned heard dataOrEnd takes loads deviceOf recordOf zeros soundDevice
     soundRecord allowed parts join all framesOf linkOf soundSlot soundLink loopOf areaOf shaped sound judgeOf callOf
-    putIn takeIn hopIn localIn itemsFit setUpOf canHop highest drainFrom
+    putIn takeIn hopIn localIn itemsFit setUpOf canHop highest drainFrom headOf recorded saved stands isOf headed
+    formed contents saveOf openWith
 empty zero = refl
 empty (suc zero) = refl
 empty (suc (suc zero)) = refl
@@ -38,7 +41,8 @@ pub example : Example
 unfolding messages kindAt lookup within firstIn firstOf hasC1 offsetIn c1In choose powerOn bytesFrom lad tad aau
     marked requested polls sst nrd aad returned heard dataOrEnd takes loads deviceOf recordOf zeros soundDevice
     soundRecord allowed parts join all framesOf linkOf soundSlot soundLink loopOf areaOf shaped sound judgeOf callOf
-    putIn takeIn hopIn localIn itemsFit setUpOf canHop highest drainFrom
+    putIn takeIn hopIn localIn itemsFit setUpOf canHop highest drainFrom headOf recorded saved stands isOf headed
+    formed contents saveOf openWith
 example =
     record {
       set-up = refl;
@@ -54,4 +58,13 @@ example =
       round-handed = refl;
       in-turn = refl;
       same-area = refl;
+      saved-long = refl;
+      saved-header = refl;
+      saved-device = refl;
+      saved-link = refl;
+      opened-is = refl;
+      later-in-turn = refl;
+      later-hops = refl;
+      later-taken = refl;
+      later-area = refl;
     }

@@ -5,7 +5,8 @@ use mathlib.Core.Bool.{true}
 use mathlib.Core.Option.{Option, none, some}
 use mathlib.Core.List.{List, [], _∷_}
 use native.Mathlib.Omega.{arith}
-use lib.Dec.{ltb}
+use lib.Dec.{ltb, lit<}
+use lib.ListN.{replicate}
 use borrow.Author.Tests.{ltb-true}
 use Rattle.frame.specs.Messages.{messages, kindAt, lookup, within, firstIn, firstOf}
 use Rattle.frame.specs.Decoding.{hasC1, offsetIn, c1In}
@@ -26,13 +27,17 @@ use Rattle.area.specs.Link.{framesOf, linkOf, soundSlot, soundLink}
 use Rattle.area.specs.Loop.{countIn, loopOf, areaOf, shaped, sound, judgeOf, device, link}
 use Rattle.calls.specs.Outcome.{After, callOf}
 use Rattle.calls.specs.Calls.{hopAnswer, hopIn}
-use Rattle.demands.specs.Calls.{Action, put, hop, drain, Call, onArea, Answer, hopped}
+use Rattle.saved.specs.Saved.{saved, formed}
+use Rattle.saved.specs.Calls.{openWith, openOf}
+use Rattle.saved.proofs.Laws.{open-saved, saved-bytes}
+use Rattle.demands.specs.Calls.{Byte, numbers, Action, put, hop, drain, save, Call, onArea, opens, Answer, hopped}
+use Rattle.demands.specs.Conditions.{due}
 use Rattle.demands.specs.Histories.{Got, handedBy, hopsBy}
 use Rattle.demands.specs.Drains.{highestOf, stopsBefore, onceHopped, byHops}
-use Rattle.demands.specs.Conditions.{lowest}
 use Rattle.demands.specs.Demands.{Judged, CanHop, ruled, hopLeaves, Obeys}
-use Rattle.teeth.specs.Teeth.{RefuserShutOut, LowestGiven, frameIn, kindIn, OneKindShutOut, PasserShutOut}
-use Rattle.teeth.specs.Teeth.{WorkerShutOut, InventedCountShutOut}
+use Rattle.demands.proofs.First.{demand-1}
+use Rattle.teeth.specs.Teeth.{RefuserShutOut, LowestGiven, TenFirst, frameIn, kindIn, OneKindShutOut}
+use Rattle.teeth.specs.Teeth.{PasserShutOut, WorkerShutOut, InventedCountShutOut}
 
 -- ---- three loops: fresh devices that can be auto-addressed, and AAD 0 before the first, or nothing
 
@@ -83,22 +88,53 @@ still-judged = record { bytes = are-bytes still refl; sound = refl }
 
 -- ---- demand 1
 
-accepted : (lowest (onArea (put 0)) one ≡ 0) × (lowest (onArea (hop 0)) one ≡ 0)
+abbrev zeroBytes : ℕ → List Byte
+zeroBytes n = replicate n (record { value = 0; small = lit< tt })
+
+accepted : (due (onArea (put 0)) one ≡ 0) × (due (onArea (hop 0)) one ≡ 0) ×
+    (due (onArea (save (zeroBytes 116))) one ≡ 0)
 unfolding powerOn bytesFrom deviceOf recordOf zeros soundDevice soundRecord parts join all framesOf linkOf soundSlot
     soundLink loopOf areaOf shaped sound judgeOf
-accepted = (refl, refl)
+accepted = (refl, refl, refl)
+
+-- numbers below 256 as bytes
+asBytes : (b : List ℕ) → Bytes b → List Byte
+asBytes [] h = []
+asBytes (x ∷ b) h = record { value = x; small = h 0 } ∷ asBytes b (λ i. h (suc i))
+
+numbers-back : (b : List ℕ) (h : Bytes b) → numbers (asBytes b h) ≡ b
+unfolding asBytes
+numbers-back [] h = refl
+numbers-back (x ∷ b) h = ap (λ (r : List ℕ). x ∷ r) (numbers-back b (λ i. h (suc i)))
+
+-- the save of the loop, opened over it
+itsSave : List Byte
+itsSave = asBytes (saved one) (saved-bytes one (one-can .judged .bytes))
+
+opened : due (opens itsSave) one ≡ 0
+unfolding itsSave
+opened =
+    sym (demand-1 .by-table (opens itsSave) one)
+    ∙ ap (λ (b : List ℕ). openOf one b .answer) (numbers-back (saved one) (saved-bytes one (one-can .judged .bytes)))
+    ∙ ap (λ (o : After ℕ). o .answer) (open-saved one one (one-can .judged .sound) refl)
 
 pub refuser-shut-out : RefuserShutOut
 refuser-shut-out =
     record {
       of-puts = λ model never r. never 0 one (r .by-table (onArea (put 0)) one ∙ accepted .0);
       of-hops = λ model never r. never 0 one (r .by-table (onArea (hop 0)) one ∙ accepted .1);
+      of-saves = λ model never r. never 116 one (r .by-table (onArea (save (zeroBytes 116))) one ∙ accepted .2);
+      of-openings = λ model never r. never itsSave one (r .by-table (opens itsSave) one ∙ opened);
     }
 
 pub lowest-given : LowestGiven
 unfolding powerOn bytesFrom deviceOf recordOf zeros soundDevice soundRecord parts join all framesOf linkOf soundSlot
     soundLink loopOf areaOf shaped sound judgeOf callOf hopIn
 lowest-given = record { five = refl; six = refl; given = refl }
+
+pub ten-first : TenFirst
+unfolding formed openWith
+ten-first = record { ten = refl; one = refl; given = refl }
 
 -- ---- demand 2
 

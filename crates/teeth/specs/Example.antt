@@ -1,16 +1,20 @@
 -- A worked example of demand 3, computed in proofs/Example.antt: two devices, two frames under way at once, a local
--- call between them, a drain that hands a byte, and a call that is refused; and the same right round. Beside it the
--- hops owed.
-use Prim.Native.Nat.{ℕ}
+-- call between them, the loop put away and opened, a drain that hands a byte, and a call that is refused; and the same
+-- right round. Beside it the hops owed, and a history that begins at an opening with frames in the links.
+use Prim.Native.Nat.{ℕ, _+_, _-_, _*_}
 use mathlib.Core.Path.{_≡_}
-use mathlib.Core.List.{List, [], _∷_, _++_}
+use mathlib.Core.List.{List, [], _∷_, _++_, map}
 use mathlib.Core.Bool.{Bool, true, false, _&&_}
 use lib.Dec.{T, eqb, ltb, ltb→lt}
-use lib.ListN.{replicate}
+use lib.ListN.{length, replicate}
 use Rattle.area.specs.Sizes.{areaSize}
+use Rattle.area.specs.Parts.{part}
+use Rattle.saved.specs.Saved.{saved, savedSize}
+use Rattle.saved.specs.Calls.{openOf}
 use Rattle.demands.specs.Calls.{Byte, Action, put, hop, take, load, drain, owes, onArea, setUp, owing, pil}
-use Rattle.demands.specs.Conditions.{lowest}
-use Rattle.demands.specs.Histories.{got, areaLeft, framesTaken, bytesHanded, hopsMade, callsRefused, inTurn}
+use Rattle.demands.specs.Conditions.{due}
+use Rattle.demands.specs.Histories.{Step, call, away, got, areaLeft, framesTaken, bytesHanded, hopsMade, stepsRefused}
+use Rattle.demands.specs.Histories.{inTurn}
 use Rattle.demands.specs.Demands.{AllEmpty, hopsOwed}
 
 abbrev pub byte : (n : ℕ) → T (ltb n 256) → Byte
@@ -29,22 +33,42 @@ blank = replicate (areaSize 2) 0
 abbrev pub fresh : List ℕ
 fresh = pil (setUp (item ++ item)) blank .area
 
--- AAD 0 and LAD 1, the second frame past device 0 before the first is past device 1, and device 0 loaded between its
--- two hops; then a data byte by a drain, and a take too many
-abbrev pub mixed : List Action
+abbrev pub calls : List Action → List Step
+calls cs = map (λ c. call c) cs
+
+-- its first three calls, AAD 0 and LAD 1: the first frame has one device ahead of it then, the second two
+abbrev pub begun : List Step
+begun = calls (put 0x580 ∷ hop 0 ∷ put 0x421 ∷ [])
+
+-- then put away, and opened in an area that held something else
+abbrev pub overnight : Step
+overnight = away (replicate (savedSize 2) zero) (replicate (areaSize 2) (byte 0xff tt))
+
+-- the second frame past device 0 before the first is past device 1, and device 0 loaded between its two hops; then a
+-- data byte by a drain, and a take too many
+abbrev pub mixed : List Step
 mixed =
-    put 0x580 ∷ hop 0 ∷ put 0x421 ∷ load 0 (byte 0x42 tt ∷ []) ∷ hop 0 ∷ hop 1 ∷ hop 1 ∷ take ∷ take ∷
-    put 0x041 ∷ drain 9 ∷ take ∷ take ∷ []
+    begun ++
+    (overnight ∷ calls (
+    load 0 (byte 0x42 tt ∷ []) ∷ hop 0 ∷ hop 1 ∷ hop 1 ∷ take ∷ take ∷
+    put 0x041 ∷ drain 9 ∷ take ∷ take ∷ []))
 
--- its first three calls: the first frame has one device ahead of it then, the second two
-abbrev pub begun : List Action
-begun = put 0x580 ∷ hop 0 ∷ put 0x421 ∷ []
-
-abbrev pub round : List Action
-round =
+abbrev pub round : List Step
+round = calls (
     put 0x580 ∷ hop 0 ∷ hop 1 ∷ take ∷
     put 0x421 ∷ load 0 (byte 0x42 tt ∷ []) ∷ hop 0 ∷ hop 1 ∷ take ∷
-    put 0x041 ∷ hop 0 ∷ hop 1 ∷ take ∷ []
+    put 0x041 ∷ hop 0 ∷ hop 1 ∷ take ∷ [])
+
+-- the loop as begun, opened the next day for a history of its own
+abbrev pub opened : List ℕ
+opened = openOf blank (saved (areaLeft fresh begun)) .area
+
+abbrev pub later : List Step
+later = calls (hop 0 ∷ put 0x041 ∷ hop 1 ∷ hop 1 ∷ take ∷ take ∷ hop 0 ∷ hop 1 ∷ take ∷ [])
+
+-- in turn the frame in link 1, which is nearest the tail, then the one in link 0, then the one put
+abbrev pub laterInTurn : List Step
+laterInTurn = calls (hop 1 ∷ take ∷ hop 0 ∷ hop 1 ∷ take ∷ put 0x041 ∷ hop 0 ∷ hop 1 ∷ take ∷ [])
 
 -- the same bytes
 abbrev pub same : List ℕ → List ℕ → Bool
@@ -55,19 +79,30 @@ same (x ∷ xs) (y ∷ ys) = eqb x y && same xs ys
 
 pub record Example : Type 0 where
   -- demand 3's premises: the set-up is accepted, and all links are empty at the end
-  pub set-up : lowest (setUp (item ++ item)) blank ≡ 0
+  pub set-up : due (setUp (item ++ item)) blank ≡ 0
   pub all-empty : AllEmpty (areaLeft fresh mixed)
   -- after its first three calls three hops are owed, and at the end none
   pub begun-owes : pil (onArea owes) (areaLeft fresh begun) .answer ≡ owing (record { hops = 3; refusal = 0 })
   pub mixed-owes : hopsOwed (areaLeft fresh mixed) ≡ 0
   -- what is seen of each history
-  pub mixed-refused : callsRefused fresh mixed ≡ 1
+  pub mixed-refused : stepsRefused fresh mixed ≡ 1
   pub mixed-taken : framesTaken fresh mixed ≡ 0x582 ∷ 0x421 ∷ 0x041 ∷ []
   pub mixed-handed : bytesHanded fresh mixed 1 ≡ got 0x41 0 ∷ []
   pub mixed-hops : hopsMade fresh mixed ≡ 6
-  pub round-refused : callsRefused fresh round ≡ 0
+  pub round-refused : stepsRefused fresh round ≡ 0
   pub round-taken : framesTaken fresh round ≡ 0x582 ∷ 0x421 ∷ 0x041 ∷ []
   pub round-handed : bytesHanded fresh round 1 ≡ got 0x41 0 ∷ []
   -- the second is the first in turn, and leaves the same bytes
   pub in-turn : inTurn fresh mixed ≡ round
   pub same-area : same (areaLeft fresh mixed) (areaLeft fresh round) ≡ true
+  -- the save of two devices: its length, what stands before a body of each kind, and the header
+  pub saved-long : length (saved fresh) ≡ 202
+  pub saved-header : part 0 14 (saved fresh) ≡ 8 ∷ 0 ∷ 0 ∷ 0 ∷ 1 ∷ 0 ∷ 2 ∷ 0 ∷ 0 ∷ 0 ∷ 0 ∷ 0 ∷ 0 ∷ 0 ∷ []
+  pub saved-device : part 14 6 (saved fresh) ≡ 64 ∷ 0 ∷ 0 ∷ 0 ∷ 2 ∷ 0 ∷ []
+  pub saved-link : part (202 - 16) 6 (saved fresh) ≡ 10 ∷ 0 ∷ 0 ∷ 0 ∷ 3 ∷ 0 ∷ []
+  -- the opening leaves what was saved; its frames go first, and its hops are the three owed and two for the frame put
+  pub opened-is : same opened (areaLeft fresh begun) ≡ true
+  pub later-in-turn : inTurn opened later ≡ laterInTurn
+  pub later-hops : hopsMade opened later ≡ 3 + 1 * 2
+  pub later-taken : framesTaken opened later ≡ 0x582 ∷ 0x421 ∷ 0x041 ∷ []
+  pub later-area : same (areaLeft opened later) (areaLeft opened laterInTurn) ≡ true

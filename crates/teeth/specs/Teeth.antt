@@ -4,14 +4,16 @@ use Prim.Native.Nat.{ℕ, suc, _<_}
 use mathlib.Core.Path.{_≡_}
 use mathlib.Core.Bool.{true}
 use mathlib.Core.List.{List, [], _∷_, _++_}
+use lib.ListN.{replicate}
+use lib.Dec.{lit<}
 use Rattle.frame.specs.Messages.{frames}
 use Rattle.device.specs.PowerOn.{powerOn}
 use Rattle.device.specs.Take.{takes}
 use Rattle.area.specs.Loop.{Loop, countIn, loopOf, areaOf, device, link}
 use Rattle.calls.specs.Outcome.{After}
-use Rattle.demands.specs.Calls.{Action, put, hop, drain, Call, onArea, decode, Answer, plain, hopped, taken}
-use Rattle.demands.specs.Calls.{drained, owing, decoded, encoded, pil, refusalIn}
-use Rattle.demands.specs.Conditions.{Empty, Full}
+use Rattle.demands.specs.Calls.{Byte, Action, put, hop, drain, save, Call, onArea, opens, decode, Answer, plain}
+use Rattle.demands.specs.Calls.{hopped, taken, drained, owing, saving, decoded, encoded, pil, refusalIn}
+use Rattle.demands.specs.Conditions.{Shape, Empty, Full, BadSave}
 use Rattle.demands.specs.Histories.{hopsBy}
 use Rattle.demands.specs.Demands.{Refuses, CanHop, ruled, Obeys}
 
@@ -22,10 +24,13 @@ abbrev pub NoneRefusing : (ℕ → Action) → Type 0
 NoneRefusing call = (model : Call → List ℕ → After Answer) →
     ((x : ℕ) (a : List ℕ) → refusalIn (model (onArea (call x)) a .answer) ≡ 0 → ⊥) → Refuses model → ⊥
 
--- be it every put, or every hop.
+-- be it every put, every hop, every save in an output of zeros, or every opening.
 pub record RefuserShutOut : Type 0 where
   pub of-puts : NoneRefusing put
   pub of-hops : NoneRefusing hop
+  pub of-saves : NoneRefusing (λ x. save (replicate x (record { value = 0; small = lit< tt })))
+  pub of-openings : (model : Call → List ℕ → After Answer) →
+      ((s : List Byte) (a : List ℕ) → refusalIn (model (opens s) a .answer) ≡ 0 → ⊥) → Refuses model → ⊥
 
 -- one device with no frame before it and four behind it: 5 and 6 both hold for its hop, and 5 is given
 abbrev pub stuck : Loop
@@ -36,6 +41,12 @@ pub record LowestGiven : Type 0 where
   pub six : Full (hop 0) (areaOf stuck) ≡ true
   pub given : refusalIn (pil (onArea (hop 0)) (areaOf stuck) .answer) ≡ 5
 
+-- no bytes as the save and none as the area: 10 and 1 both hold for the opening, and 10 is given, as 02, a, has it
+pub record TenFirst : Type 0 where
+  pub ten : BadSave (opens []) ≡ true
+  pub one : Shape (opens []) [] ≡ true
+  pub given : refusalIn (pil (opens []) [] .answer) ≡ 10
+
 -- ---- Demand 2
 
 -- the frame in a hop's answer, and the kind in a decoder's
@@ -45,6 +56,7 @@ frameIn (hopped r) = r .frame
 frameIn (taken r) = 0
 frameIn (drained r) = 0
 frameIn (owing r) = 0
+frameIn (saving k out) = 0
 frameIn (decoded r) = 0
 frameIn (encoded r) = 0
 
@@ -54,6 +66,7 @@ kindIn (hopped r) = 0
 kindIn (taken r) = 0
 kindIn (drained r) = 0
 kindIn (owing r) = 0
+kindIn (saving k out) = 0
 kindIn (decoded r) = r .kind
 kindIn (encoded r) = 0
 
