@@ -72,6 +72,7 @@ int main(void)
     accepted(pil_load(loop, sizeof loop, METER, buffer, READING), "load");
     accepted(pil_drain(loop, sizeof loop, pil_owed(loop, sizeof loop).hops).refusal, "drain"); /* SDA: a talk begins */
     refused(pil_load(loop, sizeof loop, METER, buffer, READING), PIL_BUSY, "loaded the meter during its talk");
+    refused(pil_open(loop, sizeof loop, copy, sizeof copy), PIL_BAD_SAVE, "opened a copy of the area, not its save");
     damaged(PIL_RECORD_AT(METER) + PIL_RECORD_LISTENER, PIL_UNSOUND, "wrote over a byte of the meter's record");
     damaged(PIL_HEADER_DEVICES, PIL_SHAPE, "wrote over byte 0, the number of devices");
     printf("%u refused calls, and after each the area was the same bytes\n", refused_calls);

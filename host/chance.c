@@ -53,6 +53,18 @@ uint64_t wild_number(uint64_t good)
     }
 }
 
+uint8_t damaged_value(uint8_t good)
+{
+    static const uint8_t limits[] = {0, 1, 2, 3, 4, 5, 6, 7, 8, 9, 30, 31, 32, 33, 128, 255};
+
+    switch (below(4)) {
+    case 0: return (uint8_t)(good ^ 1u << below(8));
+    case 1: return (uint8_t)(good + (one_in(2) ? 1 : -1));
+    case 2: return limits[below(sizeof limits)];
+    default: return (uint8_t)chance();
+    }
+}
+
 unsigned chance_devices(void)
 {
     if (one_in(12))

@@ -15,6 +15,8 @@ void chance_bytes(uint8_t *bytes, size_t length);
 
 /* A number that is likely to be out of range, to wrap or to look like good when its high bytes are cut off. */
 uint64_t wild_number(uint64_t good);
+/* What a damaged byte becomes: near the good one, at a limit of some field, or any. */
+uint8_t damaged_value(uint8_t good);
 /* A number of devices: mostly few, sometimes the most. */
 unsigned chance_devices(void);
 /* Items for n devices, all allowed. */

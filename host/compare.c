@@ -1,8 +1,9 @@
-/* Compares libpil with the model, call by call: answers, bytes of the area, beyond it and lent in, and the hops owed.
+/* Compares libpil with the model, call by call: answers, bytes of area and save, beside them and lent in, hops owed.
    Use: compare [seed [calls]]. Exit 0: all equal; 1: a difference; 2: a full run reached too little; 3: wrong use. */
 #include "both.h"
 #include "chance.h"
 #include "order.h"
+#include "spoil.h"
 
 #include <inttypes.h>
 #include <signal.h>
@@ -21,15 +22,18 @@ enum {
     PIL, MODEL,
     GUARD = 32,                                             /* bytes on each side that no call may touch */
     ROOM = GUARD + PIL_AREA_LENGTH(PIL_MOST_DEVICES + 1) + GUARD, /* longer than the longest area */
-    INPUT_ROOM = PIL_ITEMS_LENGTH(PIL_MOST_DEVICES + 2),    /* items, or bytes to load */
+    SAVED_ROOM = GUARD + PIL_SAVE_LENGTH(PIL_MOST_DEVICES + 1) + GUARD, /* longer than the longest save */
+    INPUT_ROOM = SAVE_ROOM,                                 /* items, bytes to load or a save to open */
+    ITEMS_ROOM = PIL_ITEMS_LENGTH(PIL_MOST_DEVICES + 2),    /* longest items tried */
     MOST_LOAD = 40,                                         /* longest load tried */
     DEFAULT_SEED = 20240,
-    DEFAULT_CALLS = 1100000,
+    DEFAULT_CALLS = 1150000,
     FULL_RUN = 1000000, /* calls from which on the counts below are demanded */
-    LEAST = 100, /* how often each refusal must be given, a byte come back, a message be encoded and hops be owed in each
-                    way */
+    LEAST = 100, /* how often each refusal must be given, a byte come back, a message be encoded, hops be owed and loops
+                    be saved and opened in each way */
     LONG = 8,    /* a loop of so many devices or more is a long one */
-    REFUSALS = PIL_BUSY + 1,
+    KEPT = 8,    /* saves that are kept for later */
+    REFUSALS = PIL_BAD_SAVE + 1,
     TALKERS = PIL_TALKER_ACCESSORY + 1,
     REASONS = PIL_STOP_HANDED + 1
 };
@@ -43,12 +47,25 @@ enum encoding { WITH_C1_0, WITH_C1_1, BAD_KIND, BAD_OFFSET, C1_OVER_1, C1_WITHOU
 /* What is owed: none, some, the most that so many devices can owe, or a refusal. */
 enum owing { OWES_NONE, OWES_SOME, SHORT_OWES_MOST, LONG_OWES_MOST, OWING_SHAPE, OWING_UNSOUND, OWINGS };
 
-enum which { SET_UP, PUT, HOP, TAKE, LOAD, STATUS, WISH, DRAIN, OWED, DECODE, ENCODE, WHICH };
+/* How a saving ends: accepted, or refused for the area's shape, the output's length (where the area is sound, and where
+   it is not) or the contents. */
+enum saving { SAVED, SAVED_SHAPE, SAVED_LENGTH, SAVED_LENGTH_UNSOUND, SAVED_UNSOUND, SAVINGS };
+
+/* How an opening ends: accepted, or refused with 10 (where one, the other or both of 1 and 2 hold as well), with 1
+   (where 2 holds as well) or with 2. */
+enum opening {
+    OPENED, BAD_FORM, BAD_FORM_1, BAD_FORM_2, BAD_FORM_1_2, BAD_LENGTH, BAD_LENGTH_2, BAD_CONTENTS, OPENINGS
+};
+
+/* A save that is opened: just made, or made before in this history or in another, of as many devices or of others. */
+enum origin { JUST_MADE, THIS_HISTORY, SAME_COUNT, OTHER_COUNT, ORIGINS };
+
+enum which { SET_UP, PUT, HOP, TAKE, LOAD, STATUS, WISH, DRAIN, OWED, SAVE, OPEN, DECODE, ENCODE, WHICH };
 
 static const char *const names[WHICH] = {"set_up", "put", "hop", "take", "load", "status", "wish", "drain", "owed",
-                                         "decode", "encode"};
+                                         "save", "open", "decode", "encode"};
 
-/* A call with its arguments; the bytes of set_up and load stand in input. */
+/* A call with its arguments; the bytes of set_up, load and open stand in input. */
 struct call {
     enum which which;
     size_t area_len;
@@ -56,6 +73,7 @@ struct call {
     uint64_t second; /* status, wish or offset */
     uint64_t third;  /* C1 */
     size_t input_len;
+    size_t saved_len; /* of the output of save */
 };
 
 /* Every field that any call answers. */
@@ -64,25 +82,45 @@ struct answer {
 };
 
 static uint8_t rooms[2][ROOM], before[ROOM];
+static uint8_t saved[2][SAVED_ROOM], saved_before[SAVED_ROOM]; /* the outputs of save */
 static uint8_t input[INPUT_ROOM], input_before[INPUT_ROOM];
 static uint64_t seed = DEFAULT_SEED, wanted = DEFAULT_CALLS, made;
 static const struct call *under_way;
 static uint64_t refusals[REFUSALS], talkers[TALKERS], reasons[REASONS], returned[RETURNED], encodings[ENCODINGS];
-static uint64_t owings[OWINGS], calls_of[WHICH];
+static uint64_t owings[OWINGS], savings[SAVINGS], openings[OPENINGS], origins[ORIGINS], spoilings[SPOILINGS];
+static uint64_t calls_of[WHICH], head_bits;
 
-/* The history under way: its number of devices, the frame taken last, and whether one frame, many or all that the links
-   can hold are under way. */
+/* The history under way: its number, its number of devices, the frame taken last, and whether one frame, many or all
+   that the links can hold are under way. */
+static uint64_t history_now;
 static unsigned n, taken;
 static enum { PACED, CROWDED, FILLING } pace;
+
+/* Saves of this history and of others, to be opened later. */
+static struct kept {
+    struct save save;
+    uint64_t history; /* 0: none yet */
+} kept[KEPT];
 
 static uint8_t *area_of(int side)
 {
     return rooms[side] + GUARD;
 }
 
+static uint8_t *save_of(int side)
+{
+    return saved[side] + GUARD;
+}
+
 static void set_both(size_t place, unsigned value)
 {
     area_of(PIL)[place] = area_of(MODEL)[place] = (uint8_t)value;
+}
+
+static void set_rooms(const uint8_t *bytes)
+{
+    memcpy(rooms[PIL], bytes, ROOM);
+    memcpy(rooms[MODEL], bytes, ROOM);
 }
 
 /* One call, on one side. */
@@ -138,6 +176,8 @@ static struct answer make(int side, const struct call *c)
     case WISH: return refusal_answer(of->wish(area, c->area_len, c->number, c->second));
     case DRAIN: return drained_answer(of->drain(area, c->area_len, c->number));
     case OWED: return owing_answer(of->owed(area, c->area_len));
+    case SAVE: return refusal_answer(of->save(area, c->area_len, save_of(side), c->saved_len));
+    case OPEN: return refusal_answer(of->open(area, c->area_len, input, c->input_len));
     case DECODE: return decoded_answer(of->decode(c->number));
     default: return encoded_answer(of->encode(c->number, c->second, c->third));
     }
@@ -162,11 +202,11 @@ static void print_bytes(const char *what, const uint8_t *bytes, size_t length)
     printf("\n");
 }
 
-static void print_first_difference(const char *what, const uint8_t *a, const uint8_t *b, long from_start)
+static void print_first_difference(const char *what, const uint8_t *a, const uint8_t *b, long room)
 {
-    for (long i = 0; i < ROOM; i++)
+    for (long i = 0; i < room; i++)
         if (a[i] != b[i]) {
-            printf("  first differing byte, %s: %ld, %02x and %02x\n", what, i - from_start, a[i], b[i]);
+            printf("  first differing byte, %s: %ld, %02x and %02x\n", what, i - GUARD, a[i], b[i]);
             return;
         }
     printf("  no differing byte, %s\n", what);
@@ -175,8 +215,8 @@ static void print_first_difference(const char *what, const uint8_t *a, const uin
 static void print_call(const char *how, const struct call *c)
 {
     printf("difference at call %" PRIu64 " of seed %" PRIu64 ": %s\n", made, seed, how);
-    printf("  %s, area length %zu, number %" PRIu64 ", second %" PRIu64 ", third %" PRIu64 ", input length %zu\n",
-           names[c->which], c->area_len, c->number, c->second, c->third, c->input_len);
+    printf("  %s, area length %zu, number %" PRIu64 ", second %" PRIu64 ", third %" PRIu64 ", input length %zu, output "
+           "length %zu\n", names[c->which], c->area_len, c->number, c->second, c->third, c->input_len, c->saved_len);
 }
 
 static _Noreturn void differs(const char *how, const struct call *c, const struct answer answers[2])
@@ -184,8 +224,12 @@ static _Noreturn void differs(const char *how, const struct call *c, const struc
     print_call(how, c);
     print_answer(PIL, &answers[PIL]);
     print_answer(MODEL, &answers[MODEL]);
-    print_first_difference("pil's area and the model's", rooms[PIL], rooms[MODEL], GUARD);
-    print_first_difference("pil's area and the area before", rooms[PIL], before, GUARD);
+    print_first_difference("pil's area and the model's", rooms[PIL], rooms[MODEL], ROOM);
+    print_first_difference("pil's area and the area before", rooms[PIL], before, ROOM);
+    if (c->which == SAVE) {
+        print_first_difference("pil's save and the model's", saved[PIL], saved[MODEL], SAVED_ROOM);
+        print_first_difference("pil's save and the output before", saved[PIL], saved_before, SAVED_ROOM);
+    }
     print_bytes("area before", before + GUARD, c->area_len < ROOM - 2 * GUARD ? c->area_len : ROOM - 2 * GUARD);
     print_bytes("input", input_before, c->input_len < INPUT_ROOM ? c->input_len : INPUT_ROOM);
     printf("  repeat: compare %" PRIu64 " %" PRIu64 "\n", seed, made);
@@ -240,6 +284,15 @@ static enum encoding encoding(const struct call *c, const struct answer *a)
     return c->third == 0 ? BAD_KIND : SEVERAL_CAUSES;
 }
 
+static enum saving saving(const struct call *c, const struct answer *a)
+{
+    uint8_t judged = model_owed(before + GUARD, c->area_len).refusal;
+
+    if (a->refusal == PIL_SHAPE && judged != PIL_SHAPE)
+        return judged == PIL_UNSOUND ? SAVED_LENGTH_UNSOUND : SAVED_LENGTH;
+    return a->refusal == PIL_ACCEPTED ? SAVED : a->refusal == PIL_SHAPE ? SAVED_SHAPE : SAVED_UNSOUND;
+}
+
 static void count_answer(const struct call *c, const struct answer *a)
 {
     calls_of[c->which]++;
@@ -250,22 +303,44 @@ static void count_answer(const struct call *c, const struct answer *a)
         count_hop((unsigned)c->number);
     if (c->which == ENCODE)
         encodings[encoding(c, a)]++;
+    if (c->which == SAVE)
+        savings[saving(c, a)]++;
 }
 
-/* Owed and a refused call alter nothing, an accepted one nothing beyond the area: no model is needed to see this. */
+/* Nothing is altered but length bytes behind the guard. */
+static int altered_within(const uint8_t *now, const uint8_t *was, size_t length, size_t room)
+{
+    size_t end = GUARD + length;
+
+    return memcmp(now, was, GUARD) == 0 && memcmp(now + end, was + end, room - end) == 0;
+}
+
+/* Owed, save and a refused call do not alter the area, an accepted one nothing beyond it, and only an accepted save its
+   output: no model is needed to see this. */
 static int only_lent_bytes_altered(const struct call *c, const struct answer *a)
 {
-    size_t end = GUARD + c->area_len;
+    int accepted = a->refusal == PIL_ACCEPTED;
+    int writes = accepted && c->which != OWED && c->which != SAVE;
 
-    if (a->refusal != PIL_ACCEPTED || c->which == OWED)
-        return memcmp(rooms[PIL], before, ROOM) == 0;
-    return memcmp(rooms[PIL], before, GUARD) == 0 && memcmp(rooms[PIL] + end, before + end, ROOM - end) == 0;
+    return altered_within(rooms[PIL], before, writes ? c->area_len : 0, ROOM)
+        && (c->which != SAVE || altered_within(saved[PIL], saved_before, accepted ? c->saved_len : 0, SAVED_ROOM));
 }
 
 /* The most that so many devices can owe: 02, k. */
 static uint32_t most_owed(unsigned devices)
 {
     return 2 * devices * (devices + 1);
+}
+
+/* Every frame in a link of a sound area owes a hop for each device ahead of it. */
+static uint32_t owed_by_frames(const uint8_t *area)
+{
+    unsigned devices = area[PIL_HEADER_DEVICES];
+    uint32_t hops = 0;
+
+    for (unsigned link = 0; link < devices; link++)
+        hops += (devices - link) * area[PIL_LINK_AT(devices, link) + PIL_LINK_COUNT];
+    return hops;
 }
 
 /* What is owed after the call, by what was owed before it and the laws of 02, k: no model is needed to see this. */
@@ -275,6 +350,7 @@ static struct pil_owing owed_by_law(const struct call *c, const struct answer *a
         return was;
     switch (c->which) {
     case SET_UP: return (struct pil_owing){0};
+    case OPEN: return (struct pil_owing){.hops = owed_by_frames(area_of(PIL))};
     case PUT: was.hops += area_of(PIL)[PIL_HEADER_DEVICES]; break;
     case HOP: was.hops--; break;
     case DRAIN: was.hops -= (uint32_t)a->hops; break;
@@ -318,6 +394,25 @@ static void compare_owed(const struct call *c, const struct answer answers[2])
     owings[owing(pil, devices)]++;
 }
 
+/* The output of save is lent with any content, the same on both sides. */
+static void lend_output(void)
+{
+    memset(saved[PIL], (int)below(256), SAVED_ROOM);
+    chance_bytes(save_of(PIL), PIL_SAVE_LENGTH(n));
+    memcpy(saved[MODEL], saved[PIL], SAVED_ROOM);
+    memcpy(saved_before, saved[PIL], SAVED_ROOM);
+}
+
+/* An accepted save is kept, in place of an older one. */
+static void keep(size_t length)
+{
+    struct kept *k = &kept[below(KEPT)];
+
+    memcpy(k->save.bytes, save_of(PIL), length);
+    k->save.length = length;
+    k->history = history_now;
+}
+
 static struct answer compare_call(const struct call *c)
 {
     struct answer answers[2];
@@ -325,6 +420,8 @@ static struct answer compare_call(const struct call *c)
     made++;
     memcpy(before, rooms[PIL], ROOM);
     memcpy(input_before, input, INPUT_ROOM);
+    if (c->which == SAVE)
+        lend_output();
     under_way = c;
     for (int side = PIL; side <= MODEL; side++)
         answers[side] = make(side, c);
@@ -332,14 +429,18 @@ static struct answer compare_call(const struct call *c)
         differs("the answers", c, answers);
     if (memcmp(rooms[PIL], rooms[MODEL], ROOM) != 0)
         differs("the areas", c, answers);
+    if (c->which == SAVE && memcmp(saved[PIL], saved[MODEL], SAVED_ROOM) != 0)
+        differs("the saves", c, answers);
     if (!only_lent_bytes_altered(c, &answers[PIL]))
         differs("bytes altered that may not be", c, answers);
     if (memcmp(input, input_before, INPUT_ROOM) != 0)
-        differs("the items or bytes to load were altered", c, answers);
+        differs("the items, the bytes to load or the save to open were altered", c, answers);
     if (c->which != DECODE && c->which != ENCODE)
         compare_owed(c, answers);
     under_way = NULL;
     count_answer(c, &answers[PIL]);
+    if (c->which == SAVE && answers[PIL].refusal == PIL_ACCEPTED)
+        keep(c->saved_len);
     return answers[PIL];
 }
 
@@ -425,6 +526,16 @@ static struct call local_call(void)
     }
 }
 
+/* An output of the right length, or of another: nearly right, of another count, or right when cut to 32 bits. */
+static struct call save_call(void)
+{
+    size_t right = PIL_SAVE_LENGTH(n);
+    size_t wrong[] = {0, right - 1, right + 1, PIL_SAVE_LENGTH(1 + below(PIL_MOST_DEVICES + 1)), PIL_AREA_LENGTH(n),
+                      right + ((size_t)1 << 32), SIZE_MAX / 2};
+
+    return (struct call){.which = SAVE, .saved_len = one_in(3) ? wrong[below(sizeof wrong / sizeof *wrong)] : right};
+}
+
 static struct call set_up_call(void)
 {
     chance_items(input, n);
@@ -472,6 +583,8 @@ static struct call sensible_call(void)
         c = drain_call(some_budget());
     else if (one_in(20))
         c = (struct call){.which = OWED};
+    else if (one_in(16))
+        c = save_call();
     else
         c = pace == PACED ? paced_call() : pace == CROWDED ? crowded_call() : filling_call();
     c.area_len = PIL_AREA_LENGTH(n);
@@ -523,7 +636,7 @@ static void wrong_length_call(void)
     uint8_t first = area_of(MODEL)[0];
 
     if (c.which == SET_UP && one_in(2)) {
-        c.input_len = wrong_length(c.input_len, PIL_ITEM_LENGTH, INPUT_ROOM);
+        c.input_len = wrong_length(c.input_len, PIL_ITEM_LENGTH, ITEMS_ROOM);
     } else {
         c.area_len = wrong_length(c.area_len, PIL_RECORD_LENGTH + PIL_LINK_LENGTH, ROOM - 2 * GUARD);
         if (one_in(4))
@@ -561,18 +674,6 @@ static size_t damaged_place(void)
     }
 }
 
-static uint8_t damaged_value(uint8_t good)
-{
-    static const uint8_t limits[] = {0, 1, 2, 3, 4, 5, 6, 7, 8, 9, 30, 31, 32, 33, 128, 255};
-
-    switch (below(4)) {
-    case 0: return (uint8_t)(good ^ 1u << below(8));
-    case 1: return (uint8_t)(good + (one_in(2) ? 1 : -1));
-    case 2: return limits[below(sizeof limits)];
-    default: return (uint8_t)chance();
-    }
-}
-
 /* Two bytes at once: a last frame or a frame in a link, at the limits of either. */
 static void damage_frame(void)
 {
@@ -602,17 +703,159 @@ static void damage(void)
 /* Damages some bytes and makes one call; an area that is sound after all is sometimes kept. */
 static void damaged_call(void)
 {
-    static uint8_t saved[ROOM];
+    static uint8_t good[ROOM];
     struct call c = any_call();
     struct answer a;
 
-    memcpy(saved, rooms[MODEL], ROOM);
+    memcpy(good, rooms[MODEL], ROOM);
     damage();
     a = compare_call(&c);
-    if (a.refusal == PIL_SHAPE || a.refusal == PIL_UNSOUND || one_in(2)) {
-        memcpy(rooms[PIL], saved, ROOM);
-        memcpy(rooms[MODEL], saved, ROOM);
+    if (a.refusal == PIL_SHAPE || a.refusal == PIL_UNSOUND || one_in(2))
+        set_rooms(good);
+}
+
+/* Saves opened. */
+
+/* An area to open a save in: as it is, or with any bytes. */
+static void lend_area(size_t length)
+{
+    if (one_in(3))
+        return;
+    chance_bytes(area_of(PIL), length < ROOM - 2 * GUARD ? length : ROOM - 2 * GUARD);
+    memcpy(area_of(MODEL), area_of(PIL), ROOM - 2 * GUARD);
+}
+
+static struct call open_call(const struct save *s, size_t area_len)
+{
+    memcpy(input, s->bytes, INPUT_ROOM);
+    return (struct call){.which = OPEN, .area_len = area_len, .input_len = s->length};
+}
+
+static _Noreturn void breaks(const char *law, const struct call *c, const struct answer *a)
+{
+    print_call(law, c);
+    print_answer(PIL, a);
+    print_bytes("save", input, c->input_len < INPUT_ROOM ? c->input_len : INPUT_ROOM);
+    exit(1);
+}
+
+/* What was opened has just this save: no model is needed to see this. */
+static void save_again(const struct save *s)
+{
+    struct call c = {.which = SAVE, .area_len = PIL_AREA_LENGTH(n), .saved_len = PIL_SAVE_LENGTH(n)};
+    struct answer a = compare_call(&c);
+
+    if (a.refusal != PIL_ACCEPTED || s->length != c.saved_len || memcmp(save_of(PIL), s->bytes, s->length) != 0)
+        breaks("what was opened has another save", &c, &a);
+}
+
+/* A save opened at once gives the area back: no model is needed to see this. */
+static void save_and_open(void)
+{
+    static uint8_t good[ROOM];
+    struct save s = {.length = PIL_SAVE_LENGTH(n)};
+    struct call c = {.which = SAVE, .area_len = PIL_AREA_LENGTH(n), .saved_len = s.length};
+    struct answer a = compare_call(&c);
+
+    if (a.refusal != PIL_ACCEPTED)
+        breaks("a sound area is not saved", &c, &a);
+    memcpy(s.bytes, save_of(PIL), s.length);
+    memcpy(good, rooms[PIL], ROOM);
+    lend_area(c.area_len);
+    c = open_call(&s, c.area_len);
+    a = compare_call(&c);
+    if (a.refusal != PIL_ACCEPTED || memcmp(area_of(PIL), good + GUARD, c.area_len) != 0)
+        breaks("a save just made does not give the area back", &c, &a);
+    openings[OPENED]++;
+    origins[JUST_MADE]++;
+}
+
+/* What holds of an opening says how it ends: 02, a, gives the order 10, 1, 2. */
+static enum opening opening(int spoilt, int wrong_length, int unsound)
+{
+    static const enum opening ends[2][2][2] = {{{OPENED, BAD_CONTENTS}, {BAD_LENGTH, BAD_LENGTH_2}},
+                                               {{BAD_FORM, BAD_FORM_2}, {BAD_FORM_1, BAD_FORM_1_2}}};
+
+    return ends[spoilt][wrong_length][unsound];
+}
+
+static const uint8_t refusal_of[OPENINGS] = {
+    PIL_ACCEPTED, PIL_BAD_SAVE, PIL_BAD_SAVE, PIL_BAD_SAVE, PIL_BAD_SAVE, PIL_SHAPE, PIL_SHAPE, PIL_UNSOUND
+};
+
+/* The length of the area that a save is opened in: right, that of the count that it tells now, of another loop or of
+   none, or right when cut to 32 bits. */
+static size_t some_area_length(size_t right, const struct save *s)
+{
+    switch (below(12)) {
+    case 0:
+    case 1:
+    case 2: return wrong_length(right, PIL_RECORD_LENGTH + PIL_LINK_LENGTH, ROOM - 2 * GUARD);
+    case 3: return right + ((size_t)1 << 32);
+    case 4: return PIL_AREA_LENGTH(saved_devices(s) % (PIL_MOST_DEVICES + 2));
+    default: return right;
     }
+}
+
+static int saved_unsound(const struct save *s)
+{
+    uint8_t area[PIL_AREA_LENGTH(PIL_MOST_DEVICES)];
+
+    return model_open(area, PIL_AREA_LENGTH(saved_devices(s)), s->bytes, s->length) == PIL_UNSOUND;
+}
+
+static void spoil_some_form(struct save *s)
+{
+    enum spoilt how = (enum spoilt)below(SPOILINGS);
+
+    spoil_form(s, how);
+    spoilings[how]++;
+}
+
+/* Opens a kept save, sometimes with other contents, spoilt, or in an area of another length. */
+static void open_kept(const struct kept *k)
+{
+    static uint8_t good[ROOM];
+    struct save s = k->save;
+    unsigned devices = saved_devices(&s);
+    size_t right = PIL_AREA_LENGTH(devices), area_len;
+    int spoilt = one_in(2), unsound;
+    enum opening end;
+    struct call c;
+    struct answer a;
+
+    if (one_in(2))
+        spoil_contents(&s);
+    unsound = saved_unsound(&s);
+    if (spoilt)
+        spoil_some_form(&s);
+    area_len = some_area_length(right, &s);
+    end = opening(spoilt, area_len != right, unsound);
+    memcpy(good, rooms[MODEL], ROOM);
+    lend_area(area_len);
+    c = open_call(&s, area_len);
+    a = compare_call(&c);
+    if (a.refusal != refusal_of[end])
+        breaks("not the first of 10, 1 and 2 that holds", &c, &a);
+    openings[end]++;
+    if (a.refusal != PIL_ACCEPTED) {
+        set_rooms(good);
+        return;
+    }
+    origins[k->history == history_now ? THIS_HISTORY : devices == n ? SAME_COUNT : OTHER_COUNT]++;
+    n = devices;
+    save_again(&s);
+}
+
+/* A loop that is being filled is mostly left to go on. */
+static void open_some(void)
+{
+    const struct kept *k = &kept[below(KEPT)];
+
+    if (k->history == 0 || one_in(4) || (pace == FILLING && !one_in(4)))
+        save_and_open();
+    else
+        open_kept(k);
 }
 
 /* Decodings and encodings. */
@@ -683,6 +926,7 @@ static void begin(void)
     struct call c;
     size_t area_len;
 
+    history_now++;
     n = chance_devices();
     area_len = PIL_AREA_LENGTH(n);
     pace = one_in(6) ? FILLING : one_in(2) ? CROWDED : PACED;
@@ -714,19 +958,46 @@ static void history(void)
 {
     begin();
     for (unsigned left = 20 + below(300); left > 0 && made < wanted; left--) {
-        switch (below(20)) {
+        switch (below(22)) {
         case 0: wild_number_call(); break;
         case 1: wrong_length_call(); break;
         case 2:
         case 3: damaged_call(); break;
         case 4: bad_items_call(); break;
         case 5: there_and_back(code_call()); break;
+        case 6:
+        case 7: open_some(); break;
         default: go_on();
         }
     }
 }
 
-/* All codes. */
+/* All heads of saves, and all codes. */
+
+/* Each bit of each head of a save of so many devices turned over; the area stays a sound one of as many. */
+static void compare_heads(unsigned devices)
+{
+    struct save s = {.length = PIL_SAVE_LENGTH(devices)}, changed;
+    size_t area_len = PIL_AREA_LENGTH(devices);
+
+    chance_sound_area(area_of(PIL), devices);
+    memcpy(rooms[MODEL], rooms[PIL], ROOM);
+    if (model_save(area_of(MODEL), area_len, s.bytes, s.length) != PIL_ACCEPTED)
+        wrong_material("to save a sound area");
+    for (unsigned part = 0; part_at(devices, part) < s.length; part++)
+        for (unsigned bit = 0; bit < 8 * PIL_SAVE_HEAD_LENGTH; bit++) {
+            struct call c;
+            struct answer a;
+
+            changed = s;
+            changed.bytes[part_at(devices, part) + bit / 8] ^= (uint8_t)(1u << bit % 8);
+            c = open_call(&changed, area_len);
+            a = compare_call(&c);
+            if (a.refusal != PIL_BAD_SAVE)
+                breaks("a save with another bit in a head is not refused as none", &c, &a);
+            head_bits++;
+        }
+}
 
 /* A kind and an offset with C1 right, wrong, and right when its high bits are cut off. */
 static void encode_with_each_c1(uint64_t kind, uint64_t offset)
@@ -813,6 +1084,15 @@ static int report(void)
     enough &= report_counts("encodings accepted with C1 0 (0), with C1 1 (1), refused for the kind (2), the offset "
                             "(3), a C1 over 1 (4), a C1 of 1 on a kind without one (5), several causes (6)", encodings,
                             0, ENCODINGS, LEAST);
+    enough &= report_counts("savings accepted (0), refused for the area's shape (1), the output's length (2), also "
+                            "where the area is unsound (3), an unsound area (4)", savings, 0, SAVINGS, LEAST);
+    enough &= report_counts("openings accepted (0), refused with 10 alone (1), also where 1 (2), 2 (3) or both hold "
+                            "(4), with 1 alone (5), also where 2 holds (6), with 2 (7)", openings, 0, OPENINGS, LEAST);
+    enough &= report_counts("saves opened: just made (0), of this history (1), of another with as many devices (2), "
+                            "with more or fewer (3)", origins, 0, ORIGINS, LEAST);
+    enough &= report_counts("no saves: cut (0), longer (1), another byte in a head (2), out of order (3), another "
+                            "count (4), of no or too many devices (5)", spoilings, 0, SPOILINGS, LEAST);
+    printf("bits of heads turned over in turn, each refused with 10: %" PRIu64 "\n", head_bits);
     enough &= report_counts("hops owed after a call: none (0), some (1), the most of a short loop (2), of a long one "
                             "(3), refused with 1 (4), with 2 (5)", owings, 0, OWINGS, LEAST);
     return enough;
@@ -835,10 +1115,13 @@ int main(int argc, char **argv)
     chance_seed(seed);
     while (made < wanted)
         history();
+    compare_heads(1);
+    compare_heads(2);
+    compare_heads(PIL_MOST_DEVICES);
     compare_small_codes();
     compare_wide_codes();
     enough = report();
     compare_table();
-    order_histories(seed, wanted / 500);
+    enough &= order_histories(seed, wanted / 500);
     return enough || wanted < FULL_RUN ? 0 : 2;
 }

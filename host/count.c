@@ -9,7 +9,7 @@
 
 enum { SDA = 0x560, ETO = 0x540, MOST_ROUNDS = 100 };
 
-static uint8_t area[LOOP_LENGTH];
+static uint8_t area[LOOP_LENGTH], save[LOOP_SAVE_LENGTH];
 
 /* Idle loops with frames in link 0. */
 
@@ -29,6 +29,14 @@ static void talk_addresses(uint8_t *loop)
 {
     idle_loop(loop);
     fill_link(loop, 0, PIL_LINK_DEPTH, 0x440, 1);
+}
+
+/* A power-on area, and the save of a busy loop to open in it. */
+static void saved_busy_loop(uint8_t *loop)
+{
+    busy_loop(loop);
+    model_save(loop, LOOP_LENGTH, save, sizeof save);
+    idle_loop(loop);
 }
 
 /* The work: each gives a number of its answers. */
@@ -56,6 +64,20 @@ static unsigned drain(const struct calls *of)
 static unsigned owed(const struct calls *of)
 {
     return of->owed(area, sizeof area).hops;
+}
+
+/* The frames that the saved tail holds. */
+static unsigned saving(const struct calls *of)
+{
+    of->save(area, sizeof area, save, sizeof save);
+    return save[PIL_SAVE_LINK_AT(LOOP_DEVICES, LOOP_DEVICES) + PIL_SAVE_HEAD_LENGTH + PIL_LINK_COUNT];
+}
+
+/* The frames that the opened tail holds. */
+static unsigned opening(const struct calls *of)
+{
+    of->open(area, sizeof area, save, sizeof save);
+    return area[PIL_LINK_AT(LOOP_DEVICES, LOOP_DEVICES) + PIL_LINK_COUNT];
 }
 
 /* SDA and then each byte that comes out sent right round, till the talker ends: the rounds made. */
@@ -87,6 +109,8 @@ static const struct {
      LOOP_FIRST_BYTE + PIL_MOST_ID + PIL_MOST_DATA / 2},
     {"busy loop: drain of 60 hops, data bytes", busy_loop_to_drain, drain, 60},
     {"busy loop: hops owed, links full", busy_loop, owed, 480},
+    {"busy loop: save of 15 devices", busy_loop, saving, PIL_LINK_DEPTH},
+    {"busy loop: opening of 15 devices", saved_busy_loop, opening, PIL_LINK_DEPTH},
     {"a talker's 32 bytes sent round, 33 rounds", talker_loop, whole_record, 33},
 };
 

@@ -1,12 +1,13 @@
 #!/bin/sh
-# Shows that the comparison can fail: with each deliberate fault in the model it must find a difference within ten
-# thousand calls, for each of three seeds, and without a fault none. Use: faults.sh DIRECTORY [RUNNER..]
-dir=$1
-shift
-calls=10000
+# Shows that the comparison can fail: with each deliberate fault in the model it must find a difference within twenty
+# thousand calls, for each of three seeds, and without a fault none. So must saves, run on the model in place of libpil,
+# with each fault of reading a save. Use: faults.sh FAULTS SAVE_FAULTS DIRECTORY [RUNNER..], faults being numbers
+faults=$1 save_faults=$2 dir=$3
+shift 3
+calls=20000
 status=0
 for seed in 1 2 3; do
-    for fault in 1 2 3 4 5 6 7 8 9 10 11; do
+    for fault in $faults; do
         found=$("$@" "$dir/compare-fault$fault" $seed $calls | sed -n 's/^difference at call \([0-9]*\) .*/\1/p')
         if [ -n "$found" ] && [ "$found" -le $calls ]; then
             echo "fault $fault, seed $seed: found at call $found"
@@ -20,6 +21,15 @@ for seed in 1 2 3; do
     else
         echo "no fault, seed $seed: FAILED"
         cat "$dir/no-fault.out"
+        status=1
+    fi
+done
+for fault in 0 $save_faults; do
+    "$@" "$dir/saves-fault$fault" "$dir/saved" > "$dir/saves-fault.out"
+    found=$?
+    echo "saves, fault $fault: $(cat "$dir/saves-fault.out")"
+    if [ $((found != 0)) -ne $((fault != 0)) ]; then
+        echo "saves, fault $fault: ENDED WITH $found"
         status=1
     fi
 done

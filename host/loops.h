@@ -7,7 +7,8 @@
 
 enum {
     LOOP_DEVICES = PIL_MOST_DEVICES,
-    LOOP_LENGTH = PIL_AREA_LENGTH(LOOP_DEVICES), /* bytes of each area here */
+    LOOP_LENGTH = PIL_AREA_LENGTH(LOOP_DEVICES), /* bytes of each area here .. */
+    LOOP_SAVE_LENGTH = PIL_SAVE_LENGTH(LOOP_DEVICES), /* .. and of its save */
     LOOP_TALKER_STATES = PIL_TALKER_ACCESSORY + 1,
     LOOP_FIRST_BYTE = 0xb8, /* a full record's ID and data, which stand together, count up from this byte .. */
     LOOP_LAST_BYTE = LOOP_FIRST_BYTE + PIL_MOST_ID + PIL_MOST_DATA - 1 /* .. to this one */

@@ -26,6 +26,11 @@ static void set16(uint8_t *at, unsigned value)
     at[1] = (uint8_t)(value >> 8);
 }
 
+static uint32_t get32(const uint8_t *at)
+{
+    return get16(at) | (uint32_t)get16(at + 2) << 16;
+}
+
 /* No stretch asked about is longer than the data. */
 static int all_zero(const uint8_t *bytes, size_t from, size_t end)
 {
@@ -775,6 +780,107 @@ struct pil_owing model_owed(const uint8_t *area, size_t area_len)
     if (MODEL_FAULT == 10)
         owing.hops += owed_by_link(area + PIL_LINK_AT(n, n), 1);
     return owing;
+}
+
+/* Saved loops: 02, a. The bodies of a save, one after the other, are the bytes of its area. */
+
+/* What is left of a save to read, and where its next body goes. */
+struct reading {
+    const uint8_t *at;
+    size_t left;
+    uint8_t *to;
+};
+
+/* Writes a body behind its head; gives the place behind it. */
+static uint8_t *write_body(uint8_t *at, unsigned kind, const uint8_t *body, unsigned length)
+{
+    set16(at + PIL_SAVE_BODY_LENGTH, length);
+    set16(at + PIL_SAVE_BODY_LENGTH + 2, 0);
+    set16(at + PIL_SAVE_KIND, kind);
+    memcpy(at + PIL_SAVE_HEAD_LENGTH, body, length);
+    return at + PIL_SAVE_HEAD_LENGTH + length;
+}
+
+uint8_t model_save(const uint8_t *area, size_t area_len, uint8_t *save, size_t save_len)
+{
+    unsigned n;
+
+    if (!shape_right(area, area_len))
+        return PIL_SHAPE;
+    n = area[PIL_HEADER_DEVICES];
+    if (save_len != PIL_SAVE_LENGTH(n) && (MODEL_FAULT != 18 || area_sound(area)))
+        return PIL_SHAPE;
+    if (!area_sound(area))
+        return PIL_UNSOUND;
+    save = write_body(save, PIL_SAVED_HEADER, area, PIL_HEADER_LENGTH);
+    for (unsigned i = 0; i < n; i++)
+        save = write_body(save, PIL_SAVED_RECORD, area + PIL_RECORD_AT(i), PIL_RECORD_LENGTH);
+    for (unsigned i = 0; i <= n; i++)
+        save = write_body(save, PIL_SAVED_LINK, area + PIL_LINK_AT(n, i), PIL_LINK_LENGTH);
+    return PIL_ACCEPTED;
+}
+
+static int head_right(const uint8_t *head, unsigned kind, unsigned length)
+{
+    uint32_t length_told = get32(head + PIL_SAVE_BODY_LENGTH);
+    unsigned kind_told = get16(head + PIL_SAVE_KIND);
+
+    return (MODEL_FAULT == 12 ? length_told % 256 : length_told) == length
+        && (MODEL_FAULT == 13 ? kind_told % 256 : kind_told) == kind;
+}
+
+/* Reads the next body, which must be there, of this kind and of this length. */
+static int read_body(struct reading *r, unsigned kind, unsigned length)
+{
+    size_t whole = PIL_SAVE_HEAD_LENGTH + length;
+
+    if (r->left < whole || !head_right(r->at, kind, length))
+        return 0;
+    memcpy(r->to, r->at + PIL_SAVE_HEAD_LENGTH, length);
+    r->at += whole;
+    r->left -= whole;
+    r->to += length;
+    return 1;
+}
+
+/* Reads all of a save into a loop's area; gives 0 where it is none. The contents are not judged. */
+static int read_save(struct reading *r)
+{
+    const uint8_t *devices = r->to + PIL_HEADER_DEVICES;
+
+    if (!read_body(r, PIL_SAVED_HEADER, PIL_HEADER_LENGTH))
+        return 0;
+    if (*devices < 1 || *devices > PIL_MOST_DEVICES + (MODEL_FAULT == 19))
+        return 0;
+    for (unsigned i = 0; i < *devices; i++)
+        if (!read_body(r, PIL_SAVED_RECORD, PIL_RECORD_LENGTH))
+            return 0;
+    for (unsigned i = 0; i <= *devices; i++)
+        if (!read_body(r, PIL_SAVED_LINK, PIL_LINK_LENGTH))
+            return 0;
+    return r->left == 0 || MODEL_FAULT == 14;
+}
+
+/* The order of the refusals is the request's: 10, 1, 2. */
+uint8_t model_open(uint8_t *area, size_t area_len, const uint8_t *save, size_t save_len)
+{
+    uint8_t loop[PIL_AREA_LENGTH(PIL_MOST_DEVICES + (MODEL_FAULT == 19))];
+    int read = read_save(&(struct reading){save, save_len, loop});
+
+    if (MODEL_FAULT == 16 && devices_of_length(area_len) == 0)
+        return PIL_SHAPE;
+    if (!read)
+        return PIL_BAD_SAVE;
+    if (MODEL_FAULT == 15)
+        memset(loop + PIL_HEADER_ZEROS, 0, PIL_HEADER_LENGTH - PIL_HEADER_ZEROS);
+    if (MODEL_FAULT == 17 && !area_sound(loop))
+        return PIL_UNSOUND;
+    if (area_len != PIL_AREA_LENGTH(loop[PIL_HEADER_DEVICES]))
+        return PIL_SHAPE;
+    if (!area_sound(loop))
+        return PIL_UNSOUND;
+    memcpy(area, loop, area_len);
+    return PIL_ACCEPTED;
 }
 
 /* The lister: 01, Rows for the table, its last part. */

@@ -1,5 +1,5 @@
-/* Random histories on fresh loops, each made again with every frame sent right round before the next and each
-   device's accepted local calls at the same places among its own hops. All that a caller sees must be the same. */
+/* Random histories from a set-up or an opening, each made again right round: the frames in the links, nearest the tail
+   first, then those put, and local calls at the same places among a device's own hops. All seen must be the same. */
 #include "order.h"
 
 #include "chance.h"
@@ -10,7 +10,12 @@
 #include <stdlib.h>
 #include <string.h>
 
-enum { MOST_FRAMES = 80, MOST_LOCALS = 120 };
+enum {
+    MOST_PUTS = 80,
+    MOST_FRAMES = PIL_LINK_DEPTH * (PIL_MOST_DEVICES + 1) + MOST_PUTS, /* in the links at first, and put */
+    MOST_LOCALS = 120,
+    LEAST = 100 /* how many histories must begin from an opening, and how often one must hold a save and its opening */
+};
 
 enum which { LOAD, STATUS, WISH };
 
@@ -23,18 +28,21 @@ struct local {
     size_t length;
 };
 
-/* A loop with what was put into it and what its caller saw. */
+/* A loop with what it held at first, what was put into it and what its caller saw. */
 struct loop {
     uint8_t area[PIL_AREA_LENGTH(PIL_MOST_DEVICES)];
     size_t area_len;
     unsigned n;
-    uint16_t put[MOST_FRAMES], out[MOST_FRAMES];
+    unsigned at_first[PIL_MOST_DEVICES + 1]; /* frames in each link, none after a set-up */
+    uint32_t owed_at_first;
+    uint16_t put[MOST_PUTS], out[MOST_FRAMES];
     unsigned puts, outs;
     uint16_t handed[PIL_MOST_DEVICES][MOST_FRAMES]; /* the byte, plus 256 with the end bit */
     unsigned handeds[PIL_MOST_DEVICES];
     uint64_t hops;
     struct local locals[MOST_LOCALS];
     unsigned accepted;
+    unsigned reopened; /* times that it was saved and opened */
 };
 
 static struct loop mixed, right_round;
@@ -54,19 +62,22 @@ static unsigned frames_in(const struct loop *l, unsigned link)
     return l->area[PIL_LINK_AT(l->n, link) + PIL_LINK_COUNT];
 }
 
-/* Hops that the device has made: the frames put less those that have not passed it. */
+/* Hops that the device has made: the frames put, and those before it at first, less those that have not passed it. */
 static unsigned hops_made(const struct loop *l, unsigned device)
 {
     unsigned made = l->puts;
 
     for (unsigned link = 0; link <= device; link++)
-        made -= frames_in(l, link);
+        made += l->at_first[link] - frames_in(l, link);
     return made;
 }
 
 static int all_empty(const struct loop *l)
 {
-    return hops_made(l, l->n) == l->puts;
+    for (unsigned link = 0; link <= l->n; link++)
+        if (frames_in(l, link) > 0)
+            return 0;
+    return 1;
 }
 
 /* The calls, each noting what its caller sees. */
@@ -124,6 +135,23 @@ static int local(struct loop *l, const struct local *c)
     }
 }
 
+/* Opens the save in the loop's area, whatever that held. */
+static void open_in(struct loop *l, const uint8_t *save, size_t save_len)
+{
+    chance_bytes(l->area, l->area_len);
+    must(pil_open(l->area, l->area_len, save, save_len) == PIL_ACCEPTED, "the opening is refused");
+}
+
+/* Saves the loop and opens just that save, with no call between (02, a). */
+static void reopen(struct loop *l)
+{
+    uint8_t save[PIL_SAVE_LENGTH(PIL_MOST_DEVICES)];
+
+    must(pil_save(l->area, l->area_len, save, PIL_SAVE_LENGTH(l->n)) == PIL_ACCEPTED, "the saving is refused");
+    open_in(l, save, PIL_SAVE_LENGTH(l->n));
+    l->reopened++;
+}
+
 /* A random history. */
 
 static void random_local(struct loop *l)
@@ -144,6 +172,8 @@ static void random_local(struct loop *l)
 
 static void random_call(struct loop *l)
 {
+    if (one_in(40))
+        reopen(l);
     switch (below(10)) {
     case 0: random_local(l); break;
     case 1:
@@ -155,13 +185,18 @@ static void random_call(struct loop *l)
     }
 }
 
-/* A fresh loop owes no hop, so those made and those still owed are frames put times devices at any time. */
+/* The hops that come to be made in all: those owed at first, and frames put times devices. */
+static uint64_t hops_in_all(const struct loop *l)
+{
+    return l->owed_at_first + (uint64_t)l->puts * l->n;
+}
+
 static void must_owe(const struct loop *l)
 {
     struct pil_owing owing = pil_owed(l->area, l->area_len);
 
-    must(owing.refusal == PIL_ACCEPTED && l->hops + owing.hops == (uint64_t)l->puts * l->n,
-         "the hops made and owed are not frames times devices");
+    must(owing.refusal == PIL_ACCEPTED && l->hops + owing.hops == hops_in_all(l),
+         "the hops made and owed are not those owed at first and frames put times devices");
 }
 
 /* Empties all links, with a local call now and then. */
@@ -171,6 +206,8 @@ static void finish(struct loop *l)
         must_owe(l);
         if (one_in(6))
             random_local(l);
+        if (one_in(6))
+            reopen(l);
         drain(l, one_in(2) ? UINT64_MAX : below(5));
         while (take(l))
             ;
@@ -179,71 +216,130 @@ static void finish(struct loop *l)
 
 /* The same, right round. */
 
-static void locals_due(struct loop *l, unsigned device, unsigned before)
+/* The accepted local calls on a device that stand at this place among its own hops. */
+static void locals_due(struct loop *l, unsigned device)
 {
+    unsigned before = hops_made(l, device);
+
     for (unsigned i = 0; i < mixed.accepted; i++)
         if (mixed.locals[i].device == device && mixed.locals[i].before == before)
             must(local(l, &mixed.locals[i]), "a local call is refused in the right-round history");
 }
 
-static void send_right_round(struct loop *l)
+/* Sends the link's oldest frame on past all devices ahead of it, and takes it out. */
+static void send_on(struct loop *l, unsigned link)
 {
-    for (unsigned k = 0; k < mixed.puts; k++) {
-        must(put(l, mixed.put[k]), "a put is refused in the right-round history");
-        for (unsigned device = 0; device < l->n; device++) {
-            locals_due(l, device, k);
-            must(hop(l, device), "a hop is refused in the right-round history");
-        }
-        must(take(l), "a take is refused in the right-round history");
+    for (unsigned device = link; device < l->n; device++) {
+        locals_due(l, device);
+        must(hop(l, device), "a hop is refused in the right-round history");
     }
-    for (unsigned device = 0; device < l->n; device++)
-        locals_due(l, device, mixed.puts);
+    must(take(l), "a take is refused in the right-round history");
 }
 
-static void begin(struct loop *l, const uint8_t *items, unsigned n)
+static void send_right_round(struct loop *l)
+{
+    for (unsigned link = l->n + 1; link-- > 0;)
+        while (frames_in(l, link) > 0)
+            send_on(l, link);
+    for (unsigned k = 0; k < mixed.puts; k++) {
+        must(put(l, mixed.put[k]), "a put is refused in the right-round history");
+        send_on(l, 0);
+    }
+    for (unsigned device = 0; device < l->n; device++)
+        locals_due(l, device);
+}
+
+static void begin(struct loop *l, unsigned n)
 {
     memset(l, 0, sizeof *l);
     l->n = n;
     l->area_len = PIL_AREA_LENGTH(n);
-    must(pil_set_up(l->area, l->area_len, items, PIL_ITEMS_LENGTH(n)) == PIL_ACCEPTED, "the set-up is refused");
 }
 
-static void one_history(void)
+static void begin_both_by_set_up(unsigned n)
 {
     uint8_t items[PIL_ITEMS_LENGTH(PIL_MOST_DEVICES)];
-    unsigned n = chance_devices(), frames = 1 + below(MOST_FRAMES);
 
     chance_items(items, n);
-    begin(&mixed, items, n);
-    begin(&right_round, items, n);
-    while (mixed.puts < frames)
-        random_call(&mixed);
-    finish(&mixed);
-    send_right_round(&right_round);
+    for (unsigned i = 0; i < 2; i++) {
+        struct loop *l = i ? &right_round : &mixed;
+
+        begin(l, n);
+        must(pil_set_up(l->area, l->area_len, items, PIL_ITEMS_LENGTH(n)) == PIL_ACCEPTED, "the set-up is refused");
+    }
+}
+
+/* Any saved loop, frames in its links and all. */
+static void begin_both_by_opening(unsigned n)
+{
+    uint8_t area[PIL_AREA_LENGTH(PIL_MOST_DEVICES)], save[PIL_SAVE_LENGTH(PIL_MOST_DEVICES)];
+
+    chance_sound_area(area, n);
+    must(pil_save(area, PIL_AREA_LENGTH(n), save, PIL_SAVE_LENGTH(n)) == PIL_ACCEPTED, "the saving is refused");
+    for (unsigned i = 0; i < 2; i++) {
+        struct loop *l = i ? &right_round : &mixed;
+
+        begin(l, n);
+        open_in(l, save, PIL_SAVE_LENGTH(n));
+        for (unsigned link = 0; link <= n; link++) {
+            l->at_first[link] = frames_in(l, link);
+            l->owed_at_first += (n - link) * frames_in(l, link);
+        }
+    }
+}
+
+static void must_be_equal(void)
+{
     must(memcmp(mixed.area, right_round.area, sizeof mixed.area) == 0, "the areas");
-    must(mixed.outs == mixed.puts && memcmp(mixed.out, right_round.out, sizeof mixed.out) == 0, "the frames out");
+    must(mixed.outs == right_round.outs && memcmp(mixed.out, right_round.out, sizeof mixed.out) == 0, "the frames out");
     must(memcmp(mixed.handeds, right_round.handeds, sizeof mixed.handeds) == 0, "the number of bytes handed");
     must(memcmp(mixed.handed, right_round.handed, sizeof mixed.handed) == 0, "the bytes handed");
-    must(mixed.hops == (uint64_t)mixed.puts * n, "the hops are not frames times devices");
+    must(mixed.hops == hops_in_all(&mixed), "the hops are not those owed at first and frames put times devices");
     must_owe(&mixed);
     must(right_round.hops == mixed.hops, "the hops");
 }
 
-void order_histories(uint64_t seed, uint64_t histories)
+/* Gives the frames in the links at first. */
+static unsigned one_history(int by_opening)
 {
-    uint64_t frames = 0, locals = 0, hops = 0, handed = 0;
+    unsigned n = chance_devices(), puts = 1 + below(MOST_PUTS), at_first = 0;
+
+    if (by_opening)
+        begin_both_by_opening(n);
+    else
+        begin_both_by_set_up(n);
+    while (mixed.puts < puts)
+        random_call(&mixed);
+    finish(&mixed);
+    send_right_round(&right_round);
+    must_be_equal();
+    for (unsigned link = 0; link <= n; link++)
+        at_first += mixed.at_first[link];
+    must(mixed.outs == at_first + mixed.puts, "not as many frames came out as there were");
+    return at_first;
+}
+
+int order_histories(uint64_t seed, uint64_t histories)
+{
+    uint64_t opened = 0, at_first = 0, puts = 0, reopened = 0, locals = 0, hops = 0, handed = 0;
 
     seed_now = seed;
     for (history_now = 1; history_now <= histories; history_now++) {
+        int by_opening = history_now % 2 == 0;
+
         chance_seed(seed + (history_now << 32));
-        one_history();
-        frames += mixed.puts;
+        at_first += one_history(by_opening);
+        opened += (unsigned)by_opening;
+        puts += mixed.puts;
+        reopened += mixed.reopened;
         locals += mixed.accepted;
         hops += mixed.hops;
         for (unsigned device = 0; device < mixed.n; device++)
             handed += mixed.handeds[device];
     }
-    printf("order: %" PRIu64 " histories equal to their right-round ones: %" PRIu64 " frames, %" PRIu64
+    printf("order: %" PRIu64 " histories equal to their right-round ones, %" PRIu64 " of them from an opening with %"
+           PRIu64 " frames in the links; %" PRIu64 " frames put, %" PRIu64 " times saved and opened, %" PRIu64
            " accepted local calls, %" PRIu64 " hops, %" PRIu64 " bytes handed\n",
-           histories, frames, locals, hops, handed);
+           histories, opened, at_first, puts, reopened, locals, hops, handed);
+    return opened >= LEAST && at_first >= LEAST && reopened >= LEAST;
 }

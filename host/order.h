@@ -4,7 +4,8 @@
 
 #include <stdint.h>
 
-/* Runs that many random histories; prints the first that differs from its right-round history and exits 1. */
-void order_histories(uint64_t seed, uint64_t histories);
+/* Runs that many random histories; prints the first that differs from its right-round history and exits 1. Gives 0 if
+   too few began from an opened save, or held one. */
+int order_histories(uint64_t seed, uint64_t histories);
 
 #endif

@@ -5,7 +5,8 @@
 
    A call allocates nothing and keeps nothing outside the area that it is lent: a copy of the area's bytes is a copy of
    the loop, and different areas may be used by different threads at once (one area by one thread at a time). An area
-   needs no alignment, and libpil.a no function but memset. */
+   needs no alignment, and libpil.a no function but memset. A loop is put away as a save, the same bytes on every
+   machine, and opened again another day. */
 #ifndef PIL_H
 #define PIL_H
 
@@ -14,7 +15,7 @@
 
 /* The version: the first number rises where a bench has to be changed, the second where something is added. */
 #define PIL_VERSION_MAJOR 2
-#define PIL_VERSION_MINOR 1
+#define PIL_VERSION_MINOR 2
 #define PIL_VERSION_PATCH 0
 #define PIL_VERSION (PIL_VERSION_MAJOR * 10000 + PIL_VERSION_MINOR * 100 + PIL_VERSION_PATCH)
 
@@ -22,12 +23,15 @@
 extern "C" {
 #endif
 
-/* Refusals. A refused call answers its refusal and zeros and alters nothing; the smallest that holds is given. */
+/* Refusals. A refused call answers its refusal and zeros and alters nothing; the smallest that holds is given, but at
+   opening 10 before 1 and 2. */
 enum {
     PIL_ACCEPTED = 0,   /* no refusal */
-    PIL_SHAPE = 1,      /* the area's length is that of no loop or, but at set-up, not that of its byte 0, as where it
-                           was not set up yet; at set-up items of another length */
-    PIL_UNSOUND = 2,    /* the area's contents break a rule of "What is sound" below; at set-up an item does */
+    PIL_SHAPE = 1,      /* the area's length is that of no loop or, but at set-up and opening, not that of its byte 0,
+                           as where it was not set up or opened yet; at set-up items, at saving an output of another
+                           length; at opening an area of another length than the saved loop's */
+    PIL_UNSOUND = 2,    /* the area's contents break a rule of "What is sound" below; at set-up an item does, at opening
+                           the saved contents do */
     PIL_NO_DEVICE = 3,  /* the device number is the number of devices or more */
     PIL_BAD_FRAME = 4,  /* a frame over 2,047; a kind or offset outside the message table, a C1 that is not 0 or 1, or a
                            C1 of 1 on a kind without one */
@@ -36,7 +40,9 @@ enum {
     PIL_NO_ABILITY = 7, /* the device lacks the ability: data for a load, status for a status, service request for a
                            wish, also for wish 0 */
     PIL_TOO_LONG = 8,   /* a load of more than 32 bytes */
-    PIL_BUSY = 9        /* a load while the device is sending data (talker state 2) */
+    PIL_BUSY = 9,       /* a load while the device is sending data (talker state 2) */
+    PIL_BAD_SAVE = 10   /* at opening, no save: a body of a wrong kind, at a wrong place or of a wrong length, bytes
+                           missing at the end or left over, or a number of devices that is not 1 to 15 */
 };
 
 /* Why a drain stopped. A refused drain answers 0 here as well: look at its refusal first. */
@@ -107,15 +113,16 @@ enum {
 
 /* Limits and lengths, in bytes where not said otherwise. */
 enum {
-    PIL_MOST_DEVICES = 15,  /* devices of the longest loop */
-    PIL_LINK_DEPTH = 4,     /* frames that a link holds */
-    PIL_MOST_ID = 8,        /* longest device ID */
-    PIL_MOST_DATA = 32,     /* longest load */
-    PIL_NO_ADDRESS = 31,    /* the address that no LAD or TAD names */
-    PIL_ITEM_LENGTH = 12,   /* a device's set-up item */
-    PIL_HEADER_LENGTH = 8,  /* the area's header */
-    PIL_RECORD_LENGTH = 64, /* a device's record */
-    PIL_LINK_LENGTH = 10    /* a link */
+    PIL_MOST_DEVICES = 15,   /* devices of the longest loop */
+    PIL_LINK_DEPTH = 4,      /* frames that a link holds */
+    PIL_MOST_ID = 8,         /* longest device ID */
+    PIL_MOST_DATA = 32,      /* longest load */
+    PIL_NO_ADDRESS = 31,     /* the address that no LAD or TAD names */
+    PIL_ITEM_LENGTH = 12,    /* a device's set-up item */
+    PIL_HEADER_LENGTH = 8,   /* the area's header */
+    PIL_RECORD_LENGTH = 64,  /* a device's record */
+    PIL_LINK_LENGTH = 10,    /* a link */
+    PIL_SAVE_HEAD_LENGTH = 6 /* what stands before each body in a save */
 };
 
 /* The area of n devices: header, n records, n + 1 links; link i feeds device i and the last link is the tail. */
@@ -127,6 +134,13 @@ enum {
 /* The length of n devices' set-up items, and where device i's item begins. */
 #define PIL_ITEMS_LENGTH(n) (PIL_ITEM_LENGTH * (size_t)(n))
 #define PIL_ITEM_AT(i) (PIL_ITEM_LENGTH * (size_t)(i))
+
+/* The save of n devices: header, n records and n + 1 links as they stand in the area, each a body behind a head. */
+#define PIL_SAVE_LENGTH(n) PIL_SAVE_LINK_AT(n, (size_t)(n) + 1)
+/* Where the head of device i's record begins in a save, and that of link i of n devices. The header's is at 0. */
+#define PIL_SAVE_RECORD_AT(i) \
+    (PIL_SAVE_HEAD_LENGTH + PIL_HEADER_LENGTH + (PIL_SAVE_HEAD_LENGTH + PIL_RECORD_LENGTH) * (size_t)(i))
+#define PIL_SAVE_LINK_AT(n, i) (PIL_SAVE_RECORD_AT(n) + (PIL_SAVE_HEAD_LENGTH + PIL_LINK_LENGTH) * (size_t)(i))
 
 /* Abilities: bits of an item's and a record's first byte. */
 enum {
@@ -184,6 +198,19 @@ enum {
     PIL_LINK_COUNT = 0, /* frames that the link holds, 0-4 */
     PIL_LINK_ZERO = 1,  /* zero byte */
     PIL_LINK_FRAMES = 2 /* four frames of two bytes, little-endian, oldest first, unused ones zero */
+};
+
+/* Offsets in a head of a save; the body stands behind it. */
+enum {
+    PIL_SAVE_BODY_LENGTH = 0, /* the body's length: four bytes, little-endian */
+    PIL_SAVE_KIND = 4         /* the body's kind: two bytes, little-endian */
+};
+
+/* Kinds of a save's bodies. */
+enum {
+    PIL_SAVED_HEADER = 1, /* the area's header, once and first */
+    PIL_SAVED_RECORD = 2, /* then each device's record, in order */
+    PIL_SAVED_LINK = 3    /* then each link, in order */
 };
 
 /* Talker states: a record's byte 5. */
@@ -267,10 +294,10 @@ struct pil_encoded {
 };
 
 /* The calls. A uint8_t answer is the refusal; in a struct look at the refusal first, since the frame 0 that a refused
-   call answers would be a data byte. Pointers are not null, at length 0 either; items and bytes to load lie outside the
-   area. Any number may be passed for a uint64_t. Each call on an area but set-up judges the whole of it before it does
-   anything. A bench may read the area between calls, and write to it at its own risk: what is not sound is refused,
-   what is sound is believed. */
+   call answers would be a data byte. Pointers are not null, at length 0 either; items, bytes to load and saves lie
+   outside the area. Any number may be passed for a uint64_t. Each call on an area but set-up and opening judges the
+   whole of it before it does anything. A bench may read the area between calls, and write to it at its own risk: what
+   is not sound is refused, what is sound is believed. */
 
 /* Writes the power-on loop of the items' devices into the area, whatever that held. The area's length says how many
    devices there are, PIL_AREA_LENGTH(n) for n, and there are n items. Gives 1, 2. */
@@ -299,8 +326,18 @@ struct pil_drained pil_drain(uint8_t *area, size_t area_len, uint64_t budget);
 /* The hops still owed: for every frame in a link the devices ahead of it, summed. So it is 0 just where the links
    before the tail are empty; above 0 there may be no hop possible before a take, as the tail may be full. An accepted
    put adds n, the number of devices; an accepted hop lowers it by one, a drain by the hops that it answers; an accepted
-   set-up makes it 0, and all else leaves it. It is at most 2n(n + 1), 480 for fifteen devices. Gives 1, 2. */
+   set-up makes it 0, an accepted opening what the saved loop owed, and all else leaves it. It is at most 2n(n + 1), 480
+   for fifteen devices. Gives 1, 2. */
 struct pil_owing pil_owed(const uint8_t *area, size_t area_len);
+/* Writes the loop into the output as its save, over whatever that held, and leaves the area as it was. The output's
+   length is PIL_SAVE_LENGTH(n) for n devices, no more and no less; any other gives 1, where the area is unsound too. A
+   sound area has one save, and no other has the same. Refused, it leaves the output as it was. Gives 1, 2. */
+uint8_t pil_save(const uint8_t *area, size_t area_len, uint8_t *save, size_t save_len);
+/* Writes the saved loop into the area, whatever that held: every byte of it is then that of the area saved, and the
+   frames in its links go on from where they were. The area's length is PIL_AREA_LENGTH(n) for the saved number of
+   devices, which is save[PIL_SAVE_HEAD_LENGTH] (in a save of any length above that). Leaves the save as it was and,
+   refused, the area too. Gives 10, then 1, then 2. */
+uint8_t pil_open(uint8_t *area, size_t area_len, const uint8_t *save, size_t save_len);
 /* The kind of a frame, 0 where it is no message, its offset in the kind, and C1. Gives 4. */
 struct pil_decoded pil_decode(uint64_t frame);
 /* The frame of a kind 1-42, an offset in the kind and C1: the one for which pil_decode answers these. DAB, END and IDY

@@ -50,8 +50,8 @@ static const char *const pil_kind_names[43] = {
     "IDY",
 };
 
-/* Refusals, PIL_ACCEPTED to PIL_BUSY. */
-static const char *const pil_refusal_texts[10] = {
+/* Refusals, PIL_ACCEPTED to PIL_BAD_SAVE. */
+static const char *const pil_refusal_texts[11] = {
     "accepted",
     "shape: lengths do not fit, or no set-up yet",
     "unsound: the area or an item breaks a rule",
@@ -62,6 +62,7 @@ static const char *const pil_refusal_texts[10] = {
     "no ability: the device cannot do that",
     "too long: more than 32 bytes",
     "busy: the device is sending data",
+    "bad save: no saved loop, or not all of one",
 };
 
 /* Why a drain stopped, PIL_STOP_NO_HOP to PIL_STOP_HANDED. */

@@ -1,5 +1,5 @@
-/* Runs the rows of 01 and 02, 01's cases at the limits, hops owed and codes of 001's message table through libpil.a,
-   called as a bench calls it. Prints each check that fails and exits 1, or one line that says how many held. */
+/* Runs the rows of 01 and 02, 01's cases at the limits, hops owed, a saved loop and codes of 001's message table
+   through libpil.a, called as a bench calls it. Prints each check that fails and exits 1, or how many held. */
 #include "pil.h"
 
 #include <stdio.h>
@@ -157,6 +157,80 @@ static void owed_cases(void)
     owes("owed, a damaged byte", area, sizeof area, PIL_UNSOUND, 0);
 }
 
+/* The one device's save: at 5, sending the first of its bytes 41 42, a TAD behind that byte and a UNL before it. */
+static const uint8_t expected_save[116] = {
+    8, 0, 0, 0, 1, 0, 1, 0, 0, 0, 0, 0, 0, 0,
+    64, 0, 0, 0, 2, 0, 0xff, 31, 5, 1, 0, 2, 0, 0, 0, 0, 0, 0, 2, 1, 0x41, 0, [14 + 6 + 32] = 0x41, 0x42,
+    [84] = 10, 0, 0, 0, 3, 0, 1, 0, 0x46, 0x04, 0, 0, 0, 0, 0, 0,
+    10, 0, 0, 0, 3, 0, 2, 0, 0x3f, 0x04, 0x41, 0, 0, 0, 0, 0
+};
+
+static void saved_loop(void)
+{
+    talker_at_5("\x41\x42");
+    check("put UNL", pil_put(area, sizeof area, 0x43f), PIL_ACCEPTED);
+    check("put SDA", pil_put(area, sizeof area, 0x560), PIL_ACCEPTED);
+    check("drain", pil_drain(area, sizeof area, 2).hops, 2);
+    check("put TAD 6", pil_put(area, sizeof area, 0x446), PIL_ACCEPTED);
+}
+
+static void save_cases(void)
+{
+    uint8_t save[sizeof expected_save + 1] = {0};
+
+    check("saved length of one", PIL_SAVE_LENGTH(1), 116);
+    check("saved length of fifteen", PIL_SAVE_LENGTH(15), 1320);
+    saved_loop();
+    check("save, an output too short", pil_save(area, sizeof area, save, 115), PIL_SHAPE);
+    check("save, an output too long", pil_save(area, sizeof area, save, 117), PIL_SHAPE);
+    check("save, a wrong length", pil_save(area, sizeof area - 1, save, 116), PIL_SHAPE);
+    check("save refused, the output", save[0], 0);
+    check("save", pil_save(area, sizeof area, save, 116), PIL_ACCEPTED);
+    check("save, its bytes", memcmp(save, expected_save, 116), 0);
+    check("save, the byte behind it", save[116], 0);
+    record[PIL_RECORD_ZERO] = 1;
+    check("save, a damaged byte", pil_save(area, sizeof area, save, 116), PIL_UNSOUND);
+    check("save, a damaged byte and an output too short", pil_save(area, sizeof area, save, 115), PIL_SHAPE);
+}
+
+/* Opens a save with one byte made another. */
+static unsigned opens_with(size_t place, unsigned value, size_t area_len, size_t save_len)
+{
+    uint8_t save[sizeof expected_save + 1] = {0};
+
+    memcpy(save, expected_save, sizeof expected_save);
+    save[place] = (uint8_t)value;
+    return pil_open(area, area_len, save, save_len);
+}
+
+static void open_cases(void)
+{
+    static uint8_t saved[sizeof area], fresh_area[sizeof area];
+
+    saved_loop();
+    memcpy(saved, area, sizeof area);
+    fresh();
+    memcpy(fresh_area, area, sizeof area);
+    check("open, cut short", opens_with(0, 8, sizeof area, 115), PIL_BAD_SAVE);
+    check("open, a byte too many", opens_with(0, 8, sizeof area, 117), PIL_BAD_SAVE);
+    check("open, an empty save", opens_with(0, 8, sizeof area, 0), PIL_BAD_SAVE);
+    check("open, a length of 8 + 65536", opens_with(2, 1, sizeof area, 116), PIL_BAD_SAVE);
+    check("open, a kind of 2 + 256", opens_with(14 + 5, 1, sizeof area, 116), PIL_BAD_SAVE);
+    check("open, a link before the record", opens_with(14 + 4, 3, sizeof area, 116), PIL_BAD_SAVE);
+    check("open, no devices", opens_with(6, 0, sizeof area, 116), PIL_BAD_SAVE);
+    check("open, two devices", opens_with(6, 2, sizeof area, 116), PIL_BAD_SAVE);
+    check("open, no save and a wrong length", opens_with(6, 2, sizeof area - 1, 116), PIL_BAD_SAVE);
+    check("open, a wrong length", opens_with(0, 8, sizeof area - 1, 116), PIL_SHAPE);
+    check("open, a wrong length and header byte 7", opens_with(6 + 7, 1, sizeof area - 1, 116), PIL_SHAPE);
+    check("open, header byte 1", opens_with(6 + 1, 1, sizeof area, 116), PIL_UNSOUND);
+    check("open, a listener over 1", opens_with(14 + 6 + 4, 2, sizeof area, 116), PIL_UNSOUND);
+    check("open refused, the area", memcmp(area, fresh_area, sizeof area), 0);
+    memset(area, 0xa5, sizeof area);
+    check("open", opens_with(0, 8, sizeof area, 116), PIL_ACCEPTED);
+    check("open, its area", memcmp(area, saved, sizeof area), 0);
+    owes("open, hops owed", area, sizeof area, PIL_ACCEPTED, 1);
+}
+
 static void decodes(const char *what, uint64_t frame, unsigned kind, unsigned offset, unsigned c1)
 {
     struct pil_decoded decoded = pil_decode(frame);
@@ -214,6 +288,8 @@ int main(void)
     service_rows();
     limits();
     owed_cases();
+    save_cases();
+    open_cases();
     codes();
     if (failed)
         return 1;

@@ -1,4 +1,4 @@
-/* The stack that libpil's hop and drain take, and the model's: each call runs on a painted stack, which shows the
+/* The stack that hop, drain, save and open take, libpil's and the model's: each runs on a painted stack that shows the
    deepest byte touched and copies of a record. Use: stack [HOP DRAIN]; exit 1: libpil exceeds a limit or copies. */
 #include "loops.h"
 #include "model.h"
@@ -21,21 +21,24 @@ typedef void function(void);
 
 static _Alignas(16) uint8_t stack[DEEP];
 static uint8_t ready[LOOP_LENGTH], area[LOOP_LENGTH];
+static uint8_t save[LOOP_SAVE_LENGTH], output[LOOP_SAVE_LENGTH]; /* the save of what is ready, and what is saved */
 
 /* What is measured. A refused hop shows what the test of soundness leaves, which a hop may write over. */
 static const struct call {
     const char *name;
     function *of[2];
-    uint64_t number; /* the device, or the budget */
+    uint64_t number; /* the device, the budget, or where an output or a save is */
     unsigned frames; /* how many are tried */
     unsigned left;   /* frames that it leaves in the link to the device */
 } calls[] = {
     {"hop", {(function *)pil_hop, (function *)model_hop}, HOPPER, PIL_FRAMES, 0},
     {"drain", {(function *)pil_drain, (function *)model_drain}, UINT64_MAX, PIL_FRAMES, 0},
     {"hop refused with 3", {(function *)pil_hop, (function *)model_hop}, LOOP_DEVICES, 1, 1},
+    {"save", {(function *)pil_save, (function *)model_save}, (uintptr_t)output, 1, 1},
+    {"open", {(function *)pil_open, (function *)model_open}, (uintptr_t)save, 1, 1},
 };
 
-enum { HOP, DRAIN, CALLS = sizeof calls / sizeof *calls };
+enum { HOP, DRAIN, HOP_REFUSED, SAVE, OPEN, CALLS = sizeof calls / sizeof *calls };
 
 /* The most that a call took or copied, and where it first did. */
 struct most {
@@ -46,20 +49,20 @@ static struct most deepest[CALLS][2], copied[CALLS][2];
 
 /* One call on the painted stack. */
 
-/* Calls of(area, length, number) with the stack pointer at the stack's end: all that is written below it, the return
-   address first, is the call's. The painted stack is not the one in use, so nothing else lives there. */
+/* Calls of(area, length, number, save's length) with the stack pointer at the stack's end: all that is written below
+   it, the return address first, is the call's. The painted stack is not the one in use, so nothing else lives there. */
 __attribute__((noinline)) static void call_on_stack(function *of, uint64_t number)
 {
     uint8_t *first = area;
-    size_t length = sizeof area;
+    size_t length = sizeof area, save_len = sizeof save;
 
     __asm__ volatile("mov %%rsp, %%rbx\n\t"
                      "mov %[end], %%rsp\n\t"
                      "call *%[of]\n\t"
                      "mov %%rbx, %%rsp"
-                     : "+D"(first), "+S"(length), "+d"(number)
+                     : "+D"(first), "+S"(length), "+d"(number), "+c"(save_len)
                      : [end] "r"(stack + DEEP), [of] "r"(of)
-                     : "rax", "rbx", "rcx", "r8", "r9", "r10", "r11", "cc", "memory", "xmm0", "xmm1", "xmm2", "xmm3",
+                     : "rax", "rbx", "r8", "r9", "r10", "r11", "cc", "memory", "xmm0", "xmm1", "xmm2", "xmm3",
                        "xmm4", "xmm5", "xmm6", "xmm7", "xmm8", "xmm9", "xmm10", "xmm11", "xmm12", "xmm13", "xmm14",
                        "xmm15");
 }
@@ -107,18 +110,32 @@ static void must(int holds, const char *what, unsigned which, unsigned frame)
     exit(1);
 }
 
+/* What is lent before the call. An opening and a saving write over zeros, so that it shows. */
+static void lend(unsigned which)
+{
+    memcpy(area, ready, sizeof area);
+    if (which == OPEN)
+        memset(area, 0, sizeof area);
+    if (which == SAVE)
+        memset(output, 0, sizeof output);
+    memset(stack, PAINT, sizeof stack);
+}
+
+static int done(unsigned which)
+{
+    return area[PIL_LINK_AT(LOOP_DEVICES, HOPPER) + PIL_LINK_COUNT] == calls[which].left
+        && (which != SAVE || memcmp(output, save, sizeof save) == 0);
+}
+
 static void measure(unsigned which, int side, unsigned frame)
 {
-    const struct call *c = &calls[which];
     unsigned depth;
 
-    memcpy(area, ready, sizeof area);
-    memset(stack, PAINT, sizeof stack);
-    call_on_stack(c->of[side], c->number);
+    lend(which);
+    call_on_stack(calls[which].of[side], calls[which].number);
     depth = touched();
     must(depth < DEEP, "deeper than the painted stack", which, frame);
-    must(area[PIL_LINK_AT(LOOP_DEVICES, HOPPER) + PIL_LINK_COUNT] == c->left, "not answered as it must be", which,
-         frame);
+    must(done(which), "not done as it must be", which, frame);
     note(&deepest[which][side], depth, frame);
     note(&copied[which][side], longest_copy(depth), frame);
 }
@@ -171,6 +188,8 @@ static void try_case(unsigned number, unsigned frame)
     for (unsigned i = 0; i < LOOP_DEVICES; i++)
         memcpy(ready + PIL_RECORD_AT(i), record, sizeof record);
     fill_link(ready, HOPPER, 1, frame, 0);
+    if (frame < calls[OPEN].frames)
+        model_save(ready, sizeof ready, save, sizeof save);
     for (unsigned which = 0; which < CALLS; which++)
         for (int side = PIL; frame < calls[which].frames && side <= MODEL; side++)
             measure(which, side, frame);

@@ -18,7 +18,7 @@ enum {
     LISTER_RUNS = 11
 };
 
-static uint8_t areas[AREAS][LOOP_LENGTH], ready[LOOP_LENGTH];
+static uint8_t areas[AREAS][LOOP_LENGTH], ready[LOOP_LENGTH], save[LOOP_SAVE_LENGTH];
 static const size_t area_len = LOOP_LENGTH;
 
 static double now(void)
@@ -46,6 +46,13 @@ static void nul_in_each_link(uint8_t *area)
 static void links_full_of_nuls(uint8_t *area)
 {
     idle_loop_with(area, PIL_LINK_DEPTH);
+}
+
+/* A busy loop whose save is there to be opened. */
+static void saved_busy_loop(uint8_t *area)
+{
+    busy_loop(area);
+    model_save(area, area_len, save, sizeof save);
 }
 
 /* The work: each does one area and gives a number that depends on the answers. */
@@ -81,6 +88,16 @@ static unsigned long owed(const struct calls *of, uint8_t *area)
     return of->owed(area, area_len).hops;
 }
 
+static unsigned long saving(const struct calls *of, uint8_t *area)
+{
+    return of->save(area, area_len, save, sizeof save) == PIL_ACCEPTED;
+}
+
+static unsigned long opening(const struct calls *of, uint8_t *area)
+{
+    return of->open(area, area_len, save, sizeof save) == PIL_ACCEPTED;
+}
+
 static const struct work {
     const char *name;
     void (*make_ready)(uint8_t *);
@@ -95,6 +112,8 @@ static const struct work {
     {"busy loop: drain of 60 hops, data bytes", busy_loop_to_drain, 1, drain},
     {"busy loop: soundness, a hop refused with 3", busy_loop, 1, soundness},
     {"busy loop: hops owed, links full", busy_loop, 1, owed},
+    {"busy loop: save of 15 devices", busy_loop, 1, saving},
+    {"busy loop: opening of 15 devices", saved_busy_loop, 1, opening},
 };
 
 /* One run of one side: nanoseconds a unit. The areas are made anew first, outside the time taken. */
