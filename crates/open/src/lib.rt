@@ -1,11 +1,9 @@
 // Open: a save becomes the lent area, if it has the form and its contents are sound.
-mod contents;
-
-use crate::contents::bodies_sound;
-use crate::contents::read_bodies;
 use area::SHAPE;
 use area::UNSOUND;
 use area::area_size;
+use bodies::bodies_sound;
+use bodies::read_bodies;
 use form::form_right;
 use saved::BAD_SAVE;
 use saved::HEAD_SIZE;

@@ -16,8 +16,8 @@ use Rattle.saved.specs.Saved.{contents}
 use Rattle.saved.specs.Inner.{soundDeviceIn, soundLinkIn, SaveOf}
 use Rattle.saved.proofs.Formed.{sound-held}
 use borrow.Author.Needs.{needs}
-use Rattle.open.proofs.contents.bodies_sound.Statement.{statement}
-use Rattle.open.proofs.contents.bodies_sound.Tie as tie
+use Rattle.bodies.proofs.bodies_sound.Statement.{statement}
+use Rattle.bodies.proofs.bodies_sound.Tie as tie
 
 together : (s : List ℕ) (x y z : Bool) (n m l head from at : ℕ) → SaveOf n s →
     x ≡ zeros (bytesFrom 1 7 (take (length s - head) (drop head s))) →

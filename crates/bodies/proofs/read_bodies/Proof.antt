@@ -13,8 +13,8 @@ use Rattle.saved.specs.Saved.{headSize, savedHeaderSize, savedDeviceSize, saved
 use Rattle.saved.specs.Saved.{body, contents}
 use Rattle.saved.proofs.Runs.{part-of, lent-long, three}
 use borrow.Author.Needs.{needs}
-use Rattle.open.proofs.contents.read_bodies.Statement.{statement}
-use Rattle.open.proofs.contents.read_bodies.Tie as tie
+use Rattle.bodies.proofs.read_bodies.Statement.{statement}
+use Rattle.bodies.proofs.read_bodies.Tie as tie
 
 together : (s p ds ls : List ℕ) (n m l from at : ℕ) → n ≡ savedCount s → p ≡ take headerSize (drop headSize s) →
     ds ≡ join (map body (parts savedDeviceSize m (take (length s - from) (drop from s)))) →

@@ -10,8 +10,8 @@ use Rattle.saved.specs.Saved.{headSize, body}
 use Rattle.saved.proofs.Record.{body-wide}
 use Rattle.saved.proofs.Runs.{Run, part-of, lent-long, fits, next, ends}
 use borrow.Author.Needs.{needs}
-use Rattle.open.proofs.contents.read_run.Statement.{statement}
-use Rattle.open.proofs.contents.read_run.Tie as tie
+use Rattle.bodies.proofs.read_run.Statement.{statement}
+use Rattle.bodies.proofs.read_run.Tie as tie
 
 abbrev Inv-loop : tie.InvT-loop
 Inv-loop records to₀ size count rest₀ at₀ left₀ to rest at left =
