@@ -67,8 +67,8 @@ uint8_t damaged_value(uint8_t good)
 
 unsigned chance_devices(void)
 {
-    if (one_in(12))
-        return PIL_MOST_DEVICES - below(3);
+    if (one_in(10))
+        return one_in(2) ? PIL_MOST_DEVICES : 1 + below(PIL_MOST_DEVICES);
     return 1 + below(one_in(4) ? 8 : 4);
 }
 

@@ -32,6 +32,8 @@ enum {
     LEAST = 100, /* how often each refusal must be given, a byte come back, a message be encoded, hops be owed and loops
                     be saved and opened in each way */
     LONG = 8,    /* a loop of so many devices or more is a long one */
+    MOST_OWED = 2 * PIL_MOST_DEVICES * (PIL_MOST_DEVICES + 1), /* hops */
+    FORMER_MOST = 15, /* devices of the longest loop before 02, j */
     KEPT = 8,    /* saves that are kept for later */
     REFUSALS = PIL_BAD_SAVE + 1,
     TALKERS = PIL_TALKER_ACCESSORY + 1,
@@ -59,6 +61,10 @@ enum opening {
 
 /* A save that is opened: just made, or made before in this history or in another, of as many devices or of others. */
 enum origin { JUST_MADE, THIS_HISTORY, SAME_COUNT, OTHER_COUNT, ORIGINS };
+
+/* A history by its devices: as many as there could be before 02, j, more, or as many as there can be; and an accepted
+   opening of more than there could be. */
+enum size { FORMER, MORE, MOST, MORE_OPENED, SIZES };
 
 enum which { SET_UP, PUT, HOP, TAKE, LOAD, STATUS, WISH, DRAIN, OWED, SAVE, OPEN, DECODE, ENCODE, WHICH };
 
@@ -88,7 +94,7 @@ static uint64_t seed = DEFAULT_SEED, wanted = DEFAULT_CALLS, made;
 static const struct call *under_way;
 static uint64_t refusals[REFUSALS], talkers[TALKERS], reasons[REASONS], returned[RETURNED], encodings[ENCODINGS];
 static uint64_t owings[OWINGS], savings[SAVINGS], openings[OPENINGS], origins[ORIGINS], spoilings[SPOILINGS];
-static uint64_t calls_of[WHICH], head_bits;
+static uint64_t calls_of[WHICH], sizes[SIZES], head_bits;
 
 /* The history under way: its number, its number of devices, the frame taken last, and whether one frame, many or all
    that the links can hold are under way. */
@@ -500,7 +506,7 @@ static uint64_t hops_owed(void)
 
 static uint64_t some_budget(void)
 {
-    static const uint64_t budgets[] = {0, 1, 1, 2, 3, 5, 10, 60, 479, 480, UINT32_MAX, UINT64_MAX};
+    static const uint64_t budgets[] = {0, 1, 1, 2, 3, 5, 10, 60, MOST_OWED - 1, MOST_OWED, UINT32_MAX, UINT64_MAX};
 
     return one_in(6) ? hops_owed() : budgets[below(sizeof budgets / sizeof *budgets)];
 }
@@ -618,12 +624,13 @@ static size_t wrong_length(size_t right, size_t step, size_t most)
 {
     size_t other = step * below(PIL_MOST_DEVICES + 2) + (step == PIL_ITEM_LENGTH ? 0 : PIL_AREA_LENGTH(0));
 
-    switch (below(6)) {
+    switch (below(7)) {
     case 0: other = right + 1; break;
     case 1: other = right - 1; break;
     case 2: other = right + step; break;
     case 3: other = below(2); break;
     case 4: other = below((unsigned)most); break;
+    case 5: other = right > 256 && one_in(2) ? right - 256 : right + 256; break; /* the same lowest byte */
     default: break;
     }
     return other <= most ? other : most;
@@ -655,6 +662,16 @@ static void bad_items_call(void)
 
     c.area_len = PIL_AREA_LENGTH(n);
     spoil_item(input + PIL_ITEMS_LENGTH(below(n)));
+    compare_call(&c);
+}
+
+/* Allowed items and an area for one device more than a loop can have. */
+static void too_many_call(void)
+{
+    struct call c = {.which = SET_UP, .area_len = PIL_AREA_LENGTH(PIL_MOST_DEVICES + 1),
+                     .input_len = PIL_ITEMS_LENGTH(PIL_MOST_DEVICES + 1)};
+
+    chance_items(input, PIL_MOST_DEVICES + 1);
     compare_call(&c);
 }
 
@@ -767,6 +784,7 @@ static void save_and_open(void)
     if (a.refusal != PIL_ACCEPTED || memcmp(area_of(PIL), good + GUARD, c.area_len) != 0)
         breaks("a save just made does not give the area back", &c, &a);
     openings[OPENED]++;
+    sizes[MORE_OPENED] += n > FORMER_MOST;
     origins[JUST_MADE]++;
 }
 
@@ -928,6 +946,7 @@ static void begin(void)
 
     history_now++;
     n = chance_devices();
+    sizes[n <= FORMER_MOST ? FORMER : n < PIL_MOST_DEVICES ? MORE : MOST]++;
     area_len = PIL_AREA_LENGTH(n);
     pace = one_in(6) ? FILLING : one_in(2) ? CROWDED : PACED;
     taken = 0;
@@ -963,7 +982,7 @@ static void history(void)
         case 1: wrong_length_call(); break;
         case 2:
         case 3: damaged_call(); break;
-        case 4: bad_items_call(); break;
+        case 4: one_in(4) ? too_many_call() : bad_items_call(); break;
         case 5: there_and_back(code_call()); break;
         case 6:
         case 7: open_some(); break;
@@ -1092,6 +1111,8 @@ static int report(void)
                             "with more or fewer (3)", origins, 0, ORIGINS, LEAST);
     enough &= report_counts("no saves: cut (0), longer (1), another byte in a head (2), out of order (3), another "
                             "count (4), of no or too many devices (5)", spoilings, 0, SPOILINGS, LEAST);
+    enough &= report_counts("histories of up to 15 devices (0), of more (1), of as many as there can be (2), openings of "
+                            "more than 15 accepted (3)", sizes, 0, SIZES, LEAST);
     printf("bits of heads turned over in turn, each refused with 10: %" PRIu64 "\n", head_bits);
     enough &= report_counts("hops owed after a call: none (0), some (1), the most of a short loop (2), of a long one "
                             "(3), refused with 1 (4), with 2 (5)", owings, 0, OWINGS, LEAST);

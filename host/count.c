@@ -1,5 +1,5 @@
-/* One piece of work of libpil or of the model on a loop of 15 devices, or none, for counting the instructions that it
-   takes. Use: count names, or count CASE WHO: the case's line among the names; 0 for neither, 1 libpil, 2 the model. */
+/* One piece of work of libpil or of the model on a loop, or none, for counting the instructions that it takes. Use:
+   count devices, count names, or count CASE WHO: the case's line among the names; 0 for neither, 1 libpil, 2 the model. */
 #include "both.h"
 #include "loops.h"
 
@@ -100,17 +100,17 @@ static const struct {
     unsigned (*work)(const struct calls *);
     unsigned answer; /* what the work must give */
 } cases[] = {
-    {"soundness of 15 devices", idle_loop, refused_hop, PIL_NO_DEVICE},
+    {"soundness", idle_loop, refused_hop, PIL_NO_DEVICE},
     {"hop of a data byte", data_byte, first_hop, 0x041},
-    {"drain of 60 hops, data bytes", data_bytes, drain, 60},
-    {"drain of 60 hops, talk addresses", talk_addresses, drain, 60},
-    {"busy loop: soundness of 15 devices", busy_loop, refused_hop, PIL_NO_DEVICE},
+    {"drain of a full link, data bytes", data_bytes, drain, LOOP_DRAIN},
+    {"drain of a full link, talk addresses", talk_addresses, drain, LOOP_DRAIN},
+    {"busy loop: soundness", busy_loop, refused_hop, PIL_NO_DEVICE},
     {"busy loop: hop of a talker's own byte", busy_loop_to_hop, last_hop,
      LOOP_FIRST_BYTE + PIL_MOST_ID + PIL_MOST_DATA / 2},
-    {"busy loop: drain of 60 hops, data bytes", busy_loop_to_drain, drain, 60},
-    {"busy loop: hops owed, links full", busy_loop, owed, 480},
-    {"busy loop: save of 15 devices", busy_loop, saving, PIL_LINK_DEPTH},
-    {"busy loop: opening of 15 devices", saved_busy_loop, opening, PIL_LINK_DEPTH},
+    {"busy loop: drain into the tail, data bytes", busy_loop_to_drain, drain, LOOP_DRAIN},
+    {"busy loop: hops owed, links full", busy_loop, owed, LOOP_MOST_OWED},
+    {"busy loop: save", busy_loop, saving, PIL_LINK_DEPTH},
+    {"busy loop: opening", saved_busy_loop, opening, PIL_LINK_DEPTH},
     {"a talker's 32 bytes sent round, 33 rounds", talker_loop, whole_record, 33},
 };
 
@@ -129,6 +129,8 @@ int main(int argc, char **argv)
 
     if (argc == 2 && strcmp(argv[1], "names") == 0)
         return print_names();
+    if (argc == 2 && strcmp(argv[1], "devices") == 0)
+        return printf("Loops of %d devices:\n", LOOP_DEVICES) < 0;
     if (argc != 3)
         return 3;
     chosen = (unsigned)atoi(argv[1]) - 1;

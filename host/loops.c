@@ -1,4 +1,4 @@
-/* Idle and busy loops of 15 devices, for measuring. */
+/* Idle and busy loops, for measuring. */
 #include "loops.h"
 
 #include "model.h"
@@ -67,6 +67,12 @@ void full_record(uint8_t *record, unsigned address, unsigned talker)
     record[PIL_RECORD_LAST] = last_sent(record);
 }
 
+/* The talker states in turn, the last device sending data. */
+static unsigned talker_of(unsigned i)
+{
+    return (PIL_TALKER_DATA + LOOP_TALKER_STATES * LOOP_DEVICES - (LOOP_DEVICES - 1 - i)) % LOOP_TALKER_STATES;
+}
+
 /* ID and data count up, so the bytes that come back to a device count up from the one that it sent last. */
 static void busy_loop_with_tail(uint8_t *area, unsigned in_tail)
 {
@@ -74,7 +80,7 @@ static void busy_loop_with_tail(uint8_t *area, unsigned in_tail)
     for (unsigned i = 0; i < LOOP_DEVICES; i++) {
         uint8_t *record = area + PIL_RECORD_AT(i);
 
-        full_record(record, i, i % LOOP_TALKER_STATES);
+        full_record(record, i, talker_of(i));
         record[PIL_RECORD_SERVICE] = (uint8_t)(i / 5 % (PIL_SERVICE_POLLED + 1));
         fill_link(area, i, PIL_LINK_DEPTH, record[PIL_RECORD_LAST], 1);
     }

@@ -1,12 +1,17 @@
-/* The loops of 15 devices that bench, count and stack measure on, made without a call of libpil: idle ones, and busy
-   ones with full records in every talker state. */
+/* The loops that bench, count and stack measure on, made without a call of libpil: idle ones, and busy ones with full
+   records in every talker state. They have as many devices as a loop can, or as LOOP_DEVICES is defined to be. */
 #ifndef LOOPS_H
 #define LOOPS_H
 
 #include "pil.h"
 
+#ifndef LOOP_DEVICES
+#define LOOP_DEVICES PIL_MOST_DEVICES
+#endif
+
 enum {
-    LOOP_DEVICES = PIL_MOST_DEVICES,
+    LOOP_MOST_OWED = 2 * LOOP_DEVICES * (LOOP_DEVICES + 1), /* hops, with all links full */
+    LOOP_DRAIN = PIL_LINK_DEPTH * LOOP_DEVICES, /* hops that drain the loops made for it */
     LOOP_LENGTH = PIL_AREA_LENGTH(LOOP_DEVICES), /* bytes of each area here .. */
     LOOP_SAVE_LENGTH = PIL_SAVE_LENGTH(LOOP_DEVICES), /* .. and of its save */
     LOOP_TALKER_STATES = PIL_TALKER_ACCESSORY + 1,
@@ -21,12 +26,12 @@ void fill_link(uint8_t *area, unsigned link, unsigned frames, unsigned first, un
 
 /* A record with every ability, configured at the address, ID and data of full length and half sent; no listener. */
 void full_record(uint8_t *record, unsigned address, unsigned talker);
-/* Full records, device i in talker state i % 6, service mixed; every link holds four data bytes, and each byte that
+/* Full records, the talker states in turn so that the last device is sending data, service mixed; every link holds four data bytes, and each byte that
    comes to a sending device is its own, undamaged. */
 void busy_loop(uint8_t *area);
 /* The same with one place free in the tail: from the highest device down, each can hop once. */
 void busy_loop_to_hop(uint8_t *area);
-/* The same with an empty tail: 60 hops are possible, the highest device's first. */
+/* The same with an empty tail: LOOP_DRAIN hops are possible, the highest device's first. */
 void busy_loop_to_drain(uint8_t *area);
 /* Full records of idle devices, but one in the middle is addressed to talk and has sent nothing; links empty. */
 void talker_loop(uint8_t *area);

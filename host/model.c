@@ -316,7 +316,8 @@ static int shape_right(const uint8_t *area, size_t area_len)
 {
     unsigned n = area_len < PIL_AREA_LENGTH(1) ? 0 : area[PIL_HEADER_DEVICES];
 
-    return n >= 1 && n <= PIL_MOST_DEVICES && area_len == PIL_AREA_LENGTH(n);
+    return n >= 1 && n <= PIL_MOST_DEVICES - (MODEL_FAULT == 20)
+        && (MODEL_FAULT == 23 ? (uint8_t)area_len == (uint8_t)PIL_AREA_LENGTH(n) : area_len == PIL_AREA_LENGTH(n));
 }
 
 /* Refusals 1 and 2, which every call but set-up gives in the same way. */
@@ -587,8 +588,9 @@ static void power_on(uint8_t *r, const uint8_t *item)
 static unsigned devices_of_length(size_t area_len)
 {
     size_t none = PIL_AREA_LENGTH(0), each = PIL_AREA_LENGTH(1) - none;
+    unsigned most = PIL_MOST_DEVICES + (MODEL_FAULT == 21);
 
-    if (area_len <= none || area_len > PIL_AREA_LENGTH(PIL_MOST_DEVICES) || (area_len - none) % each != 0)
+    if (area_len <= none || area_len > PIL_AREA_LENGTH(most) || (area_len - none) % each != 0)
         return 0;
     return (unsigned)((area_len - none) / each);
 }
@@ -850,7 +852,7 @@ static int read_save(struct reading *r)
 
     if (!read_body(r, PIL_SAVED_HEADER, PIL_HEADER_LENGTH))
         return 0;
-    if (*devices < 1 || *devices > PIL_MOST_DEVICES + (MODEL_FAULT == 19))
+    if (*devices < 1 || *devices > (MODEL_FAULT == 22 ? 15 : PIL_MOST_DEVICES + (MODEL_FAULT == 19)))
         return 0;
     for (unsigned i = 0; i < *devices; i++)
         if (!read_body(r, PIL_SAVED_RECORD, PIL_RECORD_LENGTH))

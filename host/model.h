@@ -21,7 +21,8 @@ struct pil_encoded model_encode(uint64_t kind, uint64_t offset, uint64_t c1);
 
 enum {
     MODEL_MOST_TEXT = 60000,   /* longest text that the lister reads */
-    MODEL_MOST_LISTED = 4000000 /* room for what it prints: 15,000 frames with 15 handed bytes each */
+    MODEL_MOST_LISTED = MODEL_MOST_TEXT / 4 * (16 * PIL_MOST_DEVICES + 16) /* room for what it prints: a line for each
+                                                                              frame and for each byte handed */
 };
 
 /* Lists the text into out, which has MODEL_MOST_LISTED bytes, and gives the length written. */

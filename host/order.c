@@ -14,7 +14,8 @@ enum {
     MOST_PUTS = 80,
     MOST_FRAMES = PIL_LINK_DEPTH * (PIL_MOST_DEVICES + 1) + MOST_PUTS, /* in the links at first, and put */
     MOST_LOCALS = 120,
-    LEAST = 100 /* how many histories must begin from an opening, and how often one must hold a save and its opening */
+    LEAST = 100 /* how many histories must begin from an opening and be of as many devices as there can be, and how
+                   often one must hold a save and its opening */
 };
 
 enum which { LOAD, STATUS, WISH };
@@ -321,7 +322,7 @@ static unsigned one_history(int by_opening)
 
 int order_histories(uint64_t seed, uint64_t histories)
 {
-    uint64_t opened = 0, at_first = 0, puts = 0, reopened = 0, locals = 0, hops = 0, handed = 0;
+    uint64_t opened = 0, at_first = 0, longest = 0, puts = 0, reopened = 0, locals = 0, hops = 0, handed = 0;
 
     seed_now = seed;
     for (history_now = 1; history_now <= histories; history_now++) {
@@ -330,6 +331,7 @@ int order_histories(uint64_t seed, uint64_t histories)
         chance_seed(seed + (history_now << 32));
         at_first += one_history(by_opening);
         opened += (unsigned)by_opening;
+        longest += mixed.n == PIL_MOST_DEVICES;
         puts += mixed.puts;
         reopened += mixed.reopened;
         locals += mixed.accepted;
@@ -338,8 +340,8 @@ int order_histories(uint64_t seed, uint64_t histories)
             handed += mixed.handeds[device];
     }
     printf("order: %" PRIu64 " histories equal to their right-round ones, %" PRIu64 " of them from an opening with %"
-           PRIu64 " frames in the links; %" PRIu64 " frames put, %" PRIu64 " times saved and opened, %" PRIu64
+           PRIu64 " frames in the links, %" PRIu64 " of %d devices; %" PRIu64 " frames put, %" PRIu64 " times saved and opened, %" PRIu64
            " accepted local calls, %" PRIu64 " hops, %" PRIu64 " bytes handed\n",
-           histories, opened, at_first, puts, reopened, locals, hops, handed);
-    return opened >= LEAST && at_first >= LEAST && reopened >= LEAST;
+           histories, opened, at_first, longest, PIL_MOST_DEVICES, puts, reopened, locals, hops, handed);
+    return opened >= LEAST && at_first >= LEAST && longest >= LEAST && reopened >= LEAST;
 }

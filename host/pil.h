@@ -15,7 +15,7 @@
 
 /* The version: the first number rises where a bench has to be changed, the second where something is added. */
 #define PIL_VERSION_MAJOR 2
-#define PIL_VERSION_MINOR 2
+#define PIL_VERSION_MINOR 3
 #define PIL_VERSION_PATCH 0
 #define PIL_VERSION (PIL_VERSION_MAJOR * 10000 + PIL_VERSION_MINOR * 100 + PIL_VERSION_PATCH)
 
@@ -42,7 +42,7 @@ enum {
     PIL_TOO_LONG = 8,   /* a load of more than 32 bytes */
     PIL_BUSY = 9,       /* a load while the device is sending data (talker state 2) */
     PIL_BAD_SAVE = 10   /* at opening, no save: a body of a wrong kind, at a wrong place or of a wrong length, bytes
-                           missing at the end or left over, or a number of devices that is not 1 to 15 */
+                           missing at the end or left over, or a number of devices that no loop has */
 };
 
 /* Why a drain stopped. A refused drain answers 0 here as well: look at its refusal first. */
@@ -113,7 +113,7 @@ enum {
 
 /* Limits and lengths, in bytes where not said otherwise. */
 enum {
-    PIL_MOST_DEVICES = 15,   /* devices of the longest loop */
+    PIL_MOST_DEVICES = 31,   /* devices of the longest loop */
     PIL_LINK_DEPTH = 4,      /* frames that a link holds */
     PIL_MOST_ID = 8,         /* longest device ID */
     PIL_MOST_DATA = 32,      /* longest load */
@@ -326,8 +326,8 @@ struct pil_drained pil_drain(uint8_t *area, size_t area_len, uint64_t budget);
 /* The hops still owed: for every frame in a link the devices ahead of it, summed. So it is 0 just where the links
    before the tail are empty; above 0 there may be no hop possible before a take, as the tail may be full. An accepted
    put adds n, the number of devices; an accepted hop lowers it by one, a drain by the hops that it answers; an accepted
-   set-up makes it 0, an accepted opening what the saved loop owed, and all else leaves it. It is at most 2n(n + 1), 480
-   for fifteen devices. Gives 1, 2. */
+   set-up makes it 0, an accepted opening what the saved loop owed, and all else leaves it. It is at most 2n(n + 1).
+   Gives 1, 2. */
 struct pil_owing pil_owed(const uint8_t *area, size_t area_len);
 /* Writes the loop into the output as its save, over whatever that held, and leaves the area as it was. The output's
    length is PIL_SAVE_LENGTH(n) for n devices, no more and no less; any other gives 1, where the area is unsound too. A

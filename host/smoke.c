@@ -114,6 +114,8 @@ static void limits(void)
 
     check("length of one", PIL_AREA_LENGTH(1), 92);
     check("length of fifteen", PIL_AREA_LENGTH(15), 1128);
+    check("most devices", PIL_MOST_DEVICES, 31);
+    check("length of thirty-one", PIL_AREA_LENGTH(31), 2312);
     fresh();
     check("put 2,047", pil_put(area, sizeof area, 2047), PIL_ACCEPTED);
     check("put 2,048", pil_put(area, sizeof area, 2048), PIL_BAD_FRAME);
@@ -123,8 +125,8 @@ static void limits(void)
     check("fifth frame", pil_put(area, sizeof area, 0), PIL_FULL);
     check("load 32", pil_load(area, sizeof area, 0, bytes, 32), PIL_ACCEPTED);
     check("load 33", pil_load(area, sizeof area, 0, bytes, 33), PIL_TOO_LONG);
-    check("15 devices", pil_set_up(longest, PIL_AREA_LENGTH(15), items, PIL_ITEMS_LENGTH(15)), PIL_ACCEPTED);
-    check("16 devices", pil_set_up(longest, PIL_AREA_LENGTH(16), items, PIL_ITEMS_LENGTH(16)), PIL_SHAPE);
+    check("31 devices", pil_set_up(longest, PIL_AREA_LENGTH(31), items, PIL_ITEMS_LENGTH(31)), PIL_ACCEPTED);
+    check("32 devices", pil_set_up(longest, PIL_AREA_LENGTH(32), items, PIL_ITEMS_LENGTH(32)), PIL_SHAPE);
 }
 
 static void owes(const char *what, const uint8_t *loop, size_t length, unsigned refusal, unsigned hops)
@@ -140,17 +142,17 @@ static void owed_cases(void)
     static uint8_t loop[PIL_AREA_LENGTH(PIL_MOST_DEVICES)];
     static const uint8_t items[PIL_ITEMS_LENGTH(PIL_MOST_DEVICES)];
 
-    check("set-up of fifteen", pil_set_up(loop, sizeof loop, items, sizeof items), PIL_ACCEPTED);
+    check("set-up of thirty-one", pil_set_up(loop, sizeof loop, items, sizeof items), PIL_ACCEPTED);
     owes("owed, fresh", loop, sizeof loop, PIL_ACCEPTED, 0);
     check("put", pil_put(loop, sizeof loop, 0), PIL_ACCEPTED);
-    owes("owed, a put", loop, sizeof loop, PIL_ACCEPTED, 15);
+    owes("owed, a put", loop, sizeof loop, PIL_ACCEPTED, 31);
     check("hop", pil_hop(loop, sizeof loop, 0).refusal, PIL_ACCEPTED);
-    owes("owed, a hop", loop, sizeof loop, PIL_ACCEPTED, 14);
+    owes("owed, a hop", loop, sizeof loop, PIL_ACCEPTED, 30);
     while (pil_put(loop, sizeof loop, 0) == PIL_ACCEPTED)
-        pil_drain(loop, sizeof loop, 480);
-    owes("owed, all links full", loop, sizeof loop, PIL_ACCEPTED, 480);
+        pil_drain(loop, sizeof loop, 1984);
+    owes("owed, all links full", loop, sizeof loop, PIL_ACCEPTED, 1984);
     check("take", pil_take(loop, sizeof loop).refusal, PIL_ACCEPTED);
-    owes("owed, a take", loop, sizeof loop, PIL_ACCEPTED, 480);
+    owes("owed, a take", loop, sizeof loop, PIL_ACCEPTED, 1984);
     fresh();
     owes("owed, a wrong length", area, sizeof area - 1, PIL_SHAPE, 0);
     record[PIL_RECORD_ZERO] = 1;
@@ -180,6 +182,7 @@ static void save_cases(void)
 
     check("saved length of one", PIL_SAVE_LENGTH(1), 116);
     check("saved length of fifteen", PIL_SAVE_LENGTH(15), 1320);
+    check("saved length of thirty-one", PIL_SAVE_LENGTH(31), 2696);
     saved_loop();
     check("save, an output too short", pil_save(area, sizeof area, save, 115), PIL_SHAPE);
     check("save, an output too long", pil_save(area, sizeof area, save, 117), PIL_SHAPE);

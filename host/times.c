@@ -104,16 +104,16 @@ static const struct work {
     unsigned units; /* what the work on one area counts as */
     unsigned long (*on)(const struct calls *, uint8_t *);
 } works[] = {
-    {"hop of one of 15 devices, a frame in each link", nul_in_each_link, N, hops},
-    {"drain of a full loop: 60 hops of 15 devices", links_full_of_nuls, 1, drain},
-    {"round trip: put, drain of 15 hops, take", idle_loop, 1, round_trip},
-    {"soundness of 15 devices: a hop refused with 3", links_full_of_nuls, 1, soundness},
-    {"busy loop: hop of one of 15 devices", busy_loop_to_hop, N, hops},
-    {"busy loop: drain of 60 hops, data bytes", busy_loop_to_drain, 1, drain},
+    {"hop of one device, a frame in each link", nul_in_each_link, N, hops},
+    {"drain of a full loop, four hops a device", links_full_of_nuls, 1, drain},
+    {"round trip: put, drain, take", idle_loop, 1, round_trip},
+    {"soundness: a hop refused with 3", links_full_of_nuls, 1, soundness},
+    {"busy loop: hop of one device", busy_loop_to_hop, N, hops},
+    {"busy loop: drain, four hops a device, data bytes", busy_loop_to_drain, 1, drain},
     {"busy loop: soundness, a hop refused with 3", busy_loop, 1, soundness},
     {"busy loop: hops owed, links full", busy_loop, 1, owed},
-    {"busy loop: save of 15 devices", busy_loop, 1, saving},
-    {"busy loop: opening of 15 devices", saved_busy_loop, 1, opening},
+    {"busy loop: save", busy_loop, 1, saving},
+    {"busy loop: opening", saved_busy_loop, 1, opening},
 };
 
 /* One run of one side: nanoseconds a unit. The areas are made anew first, outside the time taken. */
@@ -197,8 +197,9 @@ int main(int argc, char **argv)
 {
     int well = 1;
 
-    printf("libpil against the model (plain C, same checks, -O2), medians of %d alternating runs over %d areas.\n"
-           "Areas are written anew before each run, outside the time; nothing is cleared within it.\n", RUNS, AREAS);
+    printf("libpil against the model (plain C, same checks, -O2), medians of %d alternating runs over %d areas of %d\n"
+           "devices. Areas are written anew before each run, outside the time; nothing is cleared within it.\n", RUNS,
+           AREAS, LOOP_DEVICES);
 #ifdef EMULATED
     printf("EMULATED: x86-64 code under an emulator on another processor; the figures are of emulated code, where\n"
            "identical code at another place in memory has taken up to 1.6 times as long.\n");
@@ -208,7 +209,5 @@ int main(int argc, char **argv)
         well &= measure(&works[i]);
     if (argc == 4)
         well &= measure_listers(argv + 1, argv[3]);
-    else
-        printf("lister: not there, not measured\n");
     return well ? 0 : 1;
 }

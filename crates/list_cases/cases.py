@@ -6,10 +6,13 @@ The listings and the words come from a model of the loop that is written here fr
 """
 import os
 import random
+import re
 
+HERE = os.path.dirname(os.path.abspath(__file__))
 LISTEN, DATA, STATUS, DEVICE_ID, ACCESSORY, AUTO, UNADDRESS, SERVICE = (1 << k for k in range(8))
 TALKS = DATA | STATUS | DEVICE_ID | ACCESSORY
-MOST_DEVICES = 15
+with open(os.path.join(HERE, '..', '..', 'host', 'pil.h')) as header:
+    MOST_DEVICES = int(re.search(r'PIL_MOST_DEVICES = (\d+)', header.read())[1])
 
 
 class Device:
@@ -207,14 +210,14 @@ def any_frames(seed, count):
 
 
 ONE = b'loop 211f\n'
-LISTENERS = b'loop' + b''.join(b' 01%02x' % i for i in range(15)) + b'\n'
+LISTENERS = b'loop' + b''.join(b' 01%02x' % i for i in range(MOST_DEVICES)) + b'\n'
 CASES = {
     'example': b'loop 211f 211f\n581\n422\n041\n',
     'no_input': b'',
     'only_newline': b'\n',
     'no_devices': b'loop\n',
-    'sixteen_devices': b'loop' + b' 011f' * 16 + b'\n',
-    'fifteen_devices': b'loop' + b' 011f' * 15 + b'\n600\n',
+    'one_too_many': b'loop' + b' 011f' * (MOST_DEVICES + 1) + b'\n',
+    'most_devices': b'loop' + b' 011f' * MOST_DEVICES + b'\n600\n',
     'unaddress_alone': b'loop 401f\n',
     'service_without_status': b'loop 801f\n',
     'upper_case': b'loop 211F\n',
@@ -241,15 +244,15 @@ CASES = {
     'line_1_alone': ONE,
     'bytes_60000': ONE + frames(*([0x7ff] * 10)) + b'0' * (60000 - 10 - 40),
     'bytes_60001': ONE + frames(*([0x7ff] * 10)) + b'0' * (60001 - 10 - 40),
-    'listeners': LISTENERS + frames(*range(0x420, 0x42f), 0x041, 0x2ff, 0x141, 0x3ff),
+    'listeners': LISTENERS + frames(*range(0x420, 0x420 + MOST_DEVICES), 0x041, 0x2ff, 0x141, 0x3ff),
     'ids_and_status': b'loop 1f05 2f1f\n' + frames(
         0x445, 0x563, 0x000, 0x560, 0x561, 0x542, 0x000, 0x562, 0x561, 0x0ff, 0x45f),
     'dab_come_back': b'loop 0405\n' + frames(
         0x445, 0x561, 0x000, 0x561, 0x100, 0x561, 0x200, 0x561, 0x300, 0x561, 0x001),
     'many_frames': b'loop ff1f 2101 5d02 3f1f 011f\n' + any_frames(1, 300),
-    'seventeen_devices': b'loop' + b' 011f' * 17 + b'\n',
-    'upper_sixteenth': b'loop' + b' 011f' * 15 + b' 011F\n',
-    'sixteen_and_fixed_20': b'loop 0120' + b' 011f' * 15 + b'\n',
+    'two_too_many': b'loop' + b' 011f' * (MOST_DEVICES + 2) + b'\n',
+    'upper_one_too_many': b'loop' + b' 011f' * MOST_DEVICES + b' 011F\n',
+    'too_many_and_fixed_20': b'loop 0120' + b' 011f' * MOST_DEVICES + b'\n',
     'word_cut': b'loo',
     'wrong_behind_right': b'loop 211f 211g 2120\n',
     'rest_of_one': b'loop 211f 011f0\n',
@@ -257,7 +260,7 @@ CASES = {
     'rest_alone': b'loop 2\n',
     'item_before_form': b'loop 2120 211\n',
     'fixed_20_behind_right': b'loop 211f 011f 0120\n',
-    'fixed_ff_last': b'loop' + b' 011f' * 14 + b' 01ff\n',
+    'fixed_ff_last': b'loop' + b' 011f' * (MOST_DEVICES - 1) + b' 01ff\n',
     'fixed_before_abilities': b'loop 211f 8020\n',
     'status_before_listen': b'loop 211f c01f\n',
     'first_of_two': b'loop 211f 401f 0120\n',
@@ -284,16 +287,15 @@ CASES = {
 
 
 def main():
-    here = os.path.dirname(os.path.abspath(__file__))
-    os.makedirs(os.path.join(here, 'data'), exist_ok=True)
+    os.makedirs(os.path.join(HERE, 'data'), exist_ok=True)
     for name, script in CASES.items():
-        with open(os.path.join(here, 'data', name), 'wb') as f:
+        with open(os.path.join(HERE, 'data', name), 'wb') as f:
             f.write(script)
-    with open(os.path.join(here, 'args'), 'w') as f:
+    with open(os.path.join(HERE, 'args'), 'w') as f:
         f.write(''.join(name + '\n' for name in CASES))
-    with open(os.path.join(here, 'stdout'), 'w') as f:
+    with open(os.path.join(HERE, 'stdout'), 'w') as f:
         f.write(''.join('-- %s\n%s' % (name, listing(script)) for name, script in CASES.items()))
-    with open(os.path.join(here, 'words'), 'w') as f:
+    with open(os.path.join(HERE, 'words'), 'w') as f:
         f.write(''.join('-- %s\n%s' % (name, words(script)) for name, script in CASES.items()))
 
 

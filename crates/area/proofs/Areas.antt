@@ -9,7 +9,7 @@ use native.Mathlib.Nat.{add-assoc}
 use lib.Seq.{getD-drop, take-all, drop-at, drop-drop}
 use lib.ListN.{length-append, length-map, length-drop, take-append-drop, List·getD-map, length, getD, take}
 use lib.ListN.{drop, replicate, length-set}
-use lib.Dec.{eqb}
+use lib.Dec.{eqb, leb}
 use borrow.Author.Tests.{eqb-true, leb-true, le-leb, eq-eqb}
 use Rattle.device.specs.PowerOn.{bytesFrom}
 use Rattle.device.specs.declared.Device.{Device}
@@ -20,11 +20,11 @@ use Rattle.record.proofs.Both.{left, right}
 use Rattle.record.proofs.Laws.{record-wide, record-again, record-back, record-sound, read-good, blank-good, good-bytes}
 use Rattle.record.proofs.Bytes.{small-bytes, bytes-append}
 use Rattle.device.proofs.Bytes.{take-bytes}
-use Rattle.area.specs.Sizes.{headerSize, linkSize, mostDevices, recordAt, linkAt, areaSize}
+use Rattle.area.specs.Sizes.{headerSize, linkSize, mostDevices, isCount, recordAt, linkAt, areaSize}
 use Rattle.area.specs.Parts.{part, join, all}
 use Rattle.area.specs.Link.{framesOf, linkOf, soundLink, Frames}
 use Rattle.area.specs.Loop.{Loop, size, countIn, recordsIn, linksIn, loopOf, headerOf, areaOf, shape, unsound}
-use Rattle.area.specs.Loop.{shaped, Shaped, sound, judgeOf, device, link, Sound-loop, Holds}
+use Rattle.area.specs.Loop.{shaped, shapedWith, Shaped, sound, judgeOf, judgeWith, device, link, Sound-loop, Holds}
 use Rattle.area.specs.Lookup.{setDevice, setLink}
 use Rattle.area.proofs.Parts.{splice, map-back, length-parts, getD-parts, join-parts, length-join, splice-join}
 use Rattle.area.proofs.Parts.{part-join, parts-join, splice-past, part-past}
@@ -82,7 +82,7 @@ no-frames = record { few = omega arith; each = λ k. omega arith }
 -- ---- an area without a refusal
 
 pub judge-zero : (a : List ℕ) → judgeOf a ≡ 0 → (shaped a ≡ true) × (sound a ≡ true)
-unfolding judgeOf
+unfolding judgeWith
 judge-zero a h = go (shaped a) (sound a) h
   where
     go : (s t : Bool) → _≡_ {A = ℕ} (cond s (cond t 0 unsound) shape) 0 → (s ≡ true) × (t ≡ true)
@@ -90,8 +90,11 @@ judge-zero a h = go (shaped a) (sound a) h
     go true false e = let z : ⊥ = omega arith in absurd z
     go false t e = let z : ⊥ = omega arith in absurd z
 
+pub few-counted : (limit n : ℕ) → isCount limit n ≡ true → n ≤ limit
+few-counted limit n h = leb-true n limit (right (leb 1 n) (leb n limit) h)
+
 pub is-shaped : (a : List ℕ) → shaped a ≡ true → Shaped a
-unfolding shaped
+unfolding shapedWith
 is-shaped a h =
     record {
       some = leb-true 1 (countIn a) (search (left, right));
@@ -100,7 +103,7 @@ is-shaped a h =
     }
 
 pub shaped-empty : (a : List ℕ) → length a ≡ 0 → shaped a ≡ false
-unfolding shaped
+unfolding shapedWith
 shaped-empty [] h = refl
 shaped-empty (x ∷ xs) h = let z : ⊥ = omega arith in absurd z
 
@@ -233,7 +236,7 @@ module _ (l : Loop) (s : Sound-loop l) where
 
   -- it has no refusal
   pub judge-of : judgeOf (areaOf l) ≡ 0
-  unfolding judgeOf shaped sound
+  unfolding judgeWith shapedWith sound
   judge-of =
       let r : all soundRecord (map recordOf (l .devices)) ≡ true =
       each-all Good (deviceOf []) soundRecord recordOf (λ d g. record-sound d (g .fits) (g .sound)) (l .devices)

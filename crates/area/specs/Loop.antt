@@ -4,13 +4,13 @@ use mathlib.Core.Path.{_≡_}
 use mathlib.Core.List.{List, [], _∷_, _++_, map}
 use mathlib.Core.Bool.{Bool, _&&_, cond}
 use lib.ListN.{length, getD, drop, replicate}
-use lib.Dec.{eqb, leb}
+use lib.Dec.{eqb}
 use Rattle.device.specs.PowerOn.{bytesFrom}
 use Rattle.device.specs.declared.Device.{Device}
 use Rattle.record.specs.Record.{recordSize, deviceOf, recordOf, zeros}
 use Rattle.record.specs.Sound.{soundRecord}
 use Rattle.record.specs.Fits.{Good}
-use Rattle.area.specs.Sizes.{headerSize, linkSize, mostDevices, recordAt, areaSize}
+use Rattle.area.specs.Sizes.{headerSize, linkSize, mostDevices, isCount, recordAt, areaSize}
 use Rattle.area.specs.Parts.{parts, join, all}
 use Rattle.area.specs.Link.{framesOf, linkOf, soundLink, Frames}
 
@@ -50,14 +50,14 @@ shape = 1
 abbrev pub unsound : ℕ
 unsound = 2
 
--- the length is that of byte 0
-unfoldable pub shaped : List ℕ → Bool
-shaped a = leb 1 (countIn a) && (leb (countIn a) mostDevices && eqb (length a) (areaSize (countIn a)))
+-- byte 0 is a number of devices, at most so many, and the length is that of byte 0
+unfoldable pub shapedWith : ℕ → List ℕ → Bool
+shapedWith limit a = isCount limit (countIn a) && eqb (length a) (areaSize (countIn a))
 
 -- the same, said of the numbers
-pub record Shaped (a : List ℕ) : Type 0 where
+pub record ShapedWith (limit : ℕ) (a : List ℕ) : Type 0 where
   pub some : 1 ≤ countIn a
-  pub few : countIn a ≤ mostDevices
+  pub few : countIn a ≤ limit
   pub long : length a ≡ areaSize (countIn a)
 
 -- the contents are sound: the header's zeros, each record, each link
@@ -66,8 +66,18 @@ sound a =
     zeros (bytesFrom 1 (headerSize - 1) a) && (all soundRecord (recordsIn a) && all soundLink (linksIn a))
 
 -- an area's refusal, 0 for none
-unfoldable pub judgeOf : List ℕ → ℕ
-judgeOf a = cond (shaped a) (cond (sound a) 0 unsound) shape
+unfoldable pub judgeWith : ℕ → List ℕ → ℕ
+judgeWith limit a = cond (shapedWith limit a) (cond (sound a) 0 unsound) shape
+
+-- all three by the limit that holds
+abbrev pub shaped : List ℕ → Bool
+shaped a = shapedWith mostDevices a
+
+abbrev pub Shaped : List ℕ → Type 0
+Shaped a = ShapedWith mostDevices a
+
+abbrev pub judgeOf : List ℕ → ℕ
+judgeOf a = judgeWith mostDevices a
 
 -- device i and link j of a loop; a blank device and an empty link past their number
 abbrev pub device : Loop → ℕ → Device
@@ -76,13 +86,16 @@ device l i = getD (l .devices) i (deviceOf [])
 abbrev pub link : Loop → ℕ → List ℕ
 link l j = getD (l .links) j []
 
--- the loops that areas without a refusal hold
-pub record Sound-loop (l : Loop) : Type 0 where
+-- the loops that areas without a refusal hold, by a limit on the devices, and by the one that holds
+pub record SoundWith (limit : ℕ) (l : Loop) : Type 0 where
   pub some : 1 ≤ size l
-  pub few : size l ≤ mostDevices
+  pub few : size l ≤ limit
   pub ends : length (l .links) ≡ suc (size l)
   pub devices : (i : ℕ) → Good (device l i)
   pub frames : (j : ℕ) → Frames (link l j)
+
+abbrev pub Sound-loop : Loop → Type 0
+Sound-loop l = SoundWith mostDevices l
 
 -- an area has no refusal, holds this loop, and is this loop's area
 pub record Holds (a : List ℕ) (l : Loop) : Type 0 where

@@ -2,7 +2,9 @@
 use Prim.Native.Nat.{ℕ, _+_, _*_, _≤_}
 use mathlib.Core.Path.{_≡_}
 use mathlib.Core.List.{List}
+use mathlib.Core.Bool.{Bool, _&&_}
 use lib.ListN.{length}
+use lib.Dec.{leb}
 use Rattle.record.specs.Record.{recordSize}
 
 -- bytes before the first record
@@ -16,9 +18,13 @@ depth = 4
 abbrev pub linkSize : ℕ
 linkSize = 2 + 2 * depth
 
--- the most devices of a loop
+-- the most devices of a loop (02, j)
 abbrev pub mostDevices : ℕ
-mostDevices = 15
+mostDevices = 31
+
+-- a loop of at most so many devices can have n
+abbrev pub isCount : ℕ → ℕ → Bool
+isCount limit n = leb 1 n && leb n limit
 
 -- bytes of a set-up item
 abbrev pub itemSize : ℕ

@@ -5,7 +5,7 @@ pub mod lookup;
 
 ghost use mathlib.Core.Path.{_≡_};
 ghost use Prim.Native.Nat.{_<_};
-ghost use Rattle.area.specs.Sizes.{areaSize};
+ghost use Rattle.area.specs.Sizes.{mostDevices, isCount, areaSize};
 
 // Bytes before the first record, of a link and of a set-up item.
 pub const HEADER_SIZE: usize = 8;
@@ -17,7 +17,12 @@ pub const ITEM_SIZE: usize = 12;
 // The most frames of a link, and the most devices of a loop.
 pub const DEPTH: usize = 4;
 
-pub const MOST_DEVICES: usize = 15;
+pub const MOST_DEVICES: usize = 31;
+
+// Bytes of the largest area.
+pub const LARGEST: usize = HEADER_SIZE
+    + record::SIZE * MOST_DEVICES
+    + LINK_SIZE * (MOST_DEVICES + 1);
 
 // Refusals of an area as such.
 pub const SHAPE: u8 = 1;
@@ -40,6 +45,13 @@ pub enum Room {
 pub enum Place {
     At(usize),
     NoDevice,
+}
+
+// Whether a loop can have n devices.
+pub fn is_count(n: usize) -> bool
+    ensures { λ r. ⌜ r ≡ isCount mostDevices n ⌝ }
+{
+    (1 <= n) & (n <= MOST_DEVICES)
 }
 
 // Bytes of an area of n devices.

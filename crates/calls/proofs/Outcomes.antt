@@ -16,7 +16,7 @@ use Rattle.area.specs.Lookup.{oldestOf, roomOf, placeOf, setLink, add, remove}
 use Rattle.area.specs.declared.Oldest.{Oldest}
 use Rattle.area.specs.declared.Room.{Room}
 use Rattle.area.specs.declared.Place.{Place}
-use Rattle.calls.specs.Outcome.{Outcome, refuse, done, after, afterOf, callOf, Is}
+use Rattle.calls.specs.Outcome.{Outcome, refuse, done, after, afterOf, callOf, callWith, Is}
 use Rattle.calls.specs.Calls.{noDevice, empty, full, ofOldest, intoRoom, putIn, takenFrom, takeIn, hopAnswer}
 use Rattle.calls.specs.Calls.{sentBy, passed, passes, passesOn, hopIn, calledIn, localIn}
 
@@ -29,11 +29,11 @@ IsDone (done r m) = Unit {0}
 
 module _ {A : Type 0} (deny : ℕ → A) (call : Loop → Outcome A) (a : List ℕ) where
   pub call-refused : (judgeOf a ≡ 0 → ⊥) → callOf deny call a ≡ after (deny (judgeOf a)) a
-  unfolding callOf
+  unfolding callWith
   call-refused h = rw (ne-eqb _ _ h)
 
   pub call-done : judgeOf a ≡ 0 → callOf deny call a ≡ afterOf deny a (call (loopOf a))
-  unfolding callOf
+  unfolding callWith
   call-done h = rw (eq-eqb _ _ h)
 
   -- in the form of a contract: the area is judged wrong, or else all is as with its loop

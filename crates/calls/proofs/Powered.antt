@@ -25,7 +25,7 @@ use Rattle.area.proofs.Parts.{length-parts, getD-parts}
 use Rattle.area.proofs.Each.{each-part, each-same}
 use Rattle.area.proofs.Areas.{no-frames}
 use Rattle.calls.specs.Outcome.{after}
-use Rattle.calls.specs.SetUp.{itemsOf, itemsFit, poweredOn, setUpOf, devicesFor}
+use Rattle.calls.specs.SetUp.{itemsOf, itemsFit, poweredOn, setUpOf, setUpWith, devicesFor}
 use Rattle.calls.specs.Inner.{Fit}
 use Rattle.calls.specs.Laws.{SetUpSound}
 
@@ -98,19 +98,19 @@ module _ (n : ℕ) (items : List ℕ) where
   item-good small h i k = rw (item-device i k) (powered-good small h i)
 
 -- what the test of the lengths says
-pub items-fit : (n : ℕ) (a items : List ℕ) → itemsFit n a items ≡ true → Fit n a items
+pub items-fit : (limit n : ℕ) (a items : List ℕ) → itemsFit limit n a items ≡ true → Fit limit n a items
 unfolding itemsFit
-items-fit n a items h =
+items-fit limit n a items h =
     record {
       some = leb-true 1 n (search (left, right));
-      few = leb-true n mostDevices (search (left, right));
+      few = leb-true n limit (search (left, right));
       area = eqb-true (length a) (areaSize n) (search (left, right));
       items = eqb-true (length items) (itemSize * n) (search (left, right));
     }
 
 pub set-up-sound : SetUpSound
-set-up-sound n a items small h k =
-    let f = items-fit n a items h in
+set-up-sound limit n a items small h k =
+    let f = items-fit limit n a items h in
     record {
       some = rw (devices-long n items) (f .some);
       few = rw (devices-long n items) (f .few);
@@ -121,16 +121,16 @@ set-up-sound n a items small h k =
 
 -- what set up does, by the tests that the code makes
 module _ (a items : List ℕ) (n : ℕ) (here : n ≡ devicesFor (length a)) where
-  pub set-shape : itemsFit n a items ≡ false → setUpOf a items ≡ after shape a
-  unfolding setUpOf
+  pub set-shape : itemsFit mostDevices n a items ≡ false → setUpOf a items ≡ after shape a
+  unfolding setUpWith
   set-shape h = rw (← here, h)
 
-  pub set-unsound : itemsFit n a items ≡ true → all allowed (itemsOf n items) ≡ false →
+  pub set-unsound : itemsFit mostDevices n a items ≡ true → all allowed (itemsOf n items) ≡ false →
       setUpOf a items ≡ after unsound a
-  unfolding setUpOf
+  unfolding setUpWith
   set-unsound h k = rw (← here, h, k)
 
-  pub set-done : itemsFit n a items ≡ true → all allowed (itemsOf n items) ≡ true →
+  pub set-done : itemsFit mostDevices n a items ≡ true → all allowed (itemsOf n items) ≡ true →
       setUpOf a items ≡ after 0 (areaOf (poweredOn n items))
-  unfolding setUpOf
+  unfolding setUpWith
   set-done h k = rw (← here, h, k)

@@ -5,7 +5,7 @@ use mathlib.Core.Bool.{true}
 use mathlib.Core.List.{List}
 use lib.ListN.{length}
 use Rattle.record.specs.Sound.{allowed}
-use Rattle.area.specs.Sizes.{mostDevices, itemSize, areaSize}
+use Rattle.area.specs.Sizes.{itemSize, areaSize}
 use Rattle.area.specs.Parts.{all}
 use Rattle.area.specs.Loop.{loopOf, link, HasDevice}
 use Rattle.area.specs.Lookup.{oldestOf, roomOf}
@@ -19,14 +19,14 @@ pub record Passes (a : List ℕ) (i f n : ℕ) : Type 0 where
   pub oldest : oldestOf (link (loopOf a) i) ≡ Oldest.Frame f
   pub room : roomOf (link (loopOf a) (suc i)) ≡ Room.Behind n
 
--- an area of n devices and n items
-pub record Fit (n : ℕ) (a b : List ℕ) : Type 0 where
+-- an area of n devices, at most so many, and n items
+pub record Fit (limit n : ℕ) (a b : List ℕ) : Type 0 where
   pub some : 1 ≤ n
-  pub few : n ≤ mostDevices
+  pub few : n ≤ limit
   pub area : length a ≡ areaSize n
   pub items : length b ≡ itemSize * n
 
 -- and each item is allowed
-pub record Sets (n : ℕ) (a b : List ℕ) : Type 0 where
-  pub fit : Fit n a b
+pub record Sets (limit n : ℕ) (a b : List ℕ) : Type 0 where
+  pub fit : Fit limit n a b
   pub each : all allowed (itemsOf n b) ≡ true

@@ -7,7 +7,7 @@ use Rattle.record_local.specs.Local.{loads, setsStatus, wishes}
 use Rattle.record.specs.Fits.{Bytes}
 use Rattle.record.specs.Sound.{allowed}
 use Rattle.area.specs.Parts.{all}
-use Rattle.area.specs.Loop.{Loop, size, areaOf, Sound-loop, Holds}
+use Rattle.area.specs.Loop.{Loop, size, areaOf, SoundWith, Sound-loop, Holds}
 use Rattle.calls.specs.Outcome.{Outcome, After, afterOf, callOf, Is, loopAfter}
 use Rattle.calls.specs.Calls.{putIn, takeIn, hopIn, localIn}
 use Rattle.calls.specs.Drain.{drainIn}
@@ -63,5 +63,5 @@ DrainKeeps = (b : ℕ) → Keeps (drainIn b)
 -- A set-up that is not refused leaves a sound loop
 abbrev pub SetUpSound : Type 0
 SetUpSound =
-    (n : ℕ) (a items : List ℕ) → Bytes items → itemsFit n a items ≡ true → all allowed (itemsOf n items) ≡ true →
-    Sound-loop (poweredOn n items)
+    (limit n : ℕ) (a items : List ℕ) → Bytes items → itemsFit limit n a items ≡ true →
+    all allowed (itemsOf n items) ≡ true → SoundWith limit (poweredOn n items)

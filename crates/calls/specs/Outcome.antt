@@ -4,7 +4,8 @@ use mathlib.Core.Path.{_≡_}
 use mathlib.Core.List.{List}
 use mathlib.Core.Bool.{cond}
 use lib.Dec.{eqb}
-use Rattle.area.specs.Loop.{Loop, loopOf, areaOf, judgeOf}
+use Rattle.area.specs.Sizes.{mostDevices}
+use Rattle.area.specs.Loop.{Loop, loopOf, areaOf, judgeWith}
 
 -- a call refuses, or it is done: it answers and leaves a loop
 pub data Outcome (A : Type 0) : Type 0 where
@@ -24,9 +25,14 @@ abbrev pub afterOf : {A : Type 0} → (ℕ → A) → List ℕ → Outcome A →
 afterOf deny a (refuse k) = after (deny k) a
 afterOf deny a (done r l) = after r (areaOf l)
 
--- a call on an area: refusals 1 and 2 first, else what the call does with the loop in it
-unfoldable pub callOf : {A : Type 0} → (ℕ → A) → (Loop → Outcome A) → List ℕ → After A
-callOf deny call a = cond (eqb (judgeOf a) 0) (afterOf deny a (call (loopOf a))) (after (deny (judgeOf a)) a)
+-- a call on an area: refusals 1 and 2 first, else what the call does with the loop in it; by a limit on the devices,
+-- and by the one that holds
+unfoldable pub callWith : {A : Type 0} → ℕ → (ℕ → A) → (Loop → Outcome A) → List ℕ → After A
+callWith limit deny call a =
+    let k = judgeWith limit a in cond (eqb k 0) (afterOf deny a (call (loopOf a))) (after (deny k) a)
+
+abbrev pub callOf : {A : Type 0} → (ℕ → A) → (Loop → Outcome A) → List ℕ → After A
+callOf deny call a = callWith mostDevices deny call a
 
 -- a call that only reads is done: it answers, and leaves the loop as it was
 abbrev pub reads : {A : Type 0} → (Loop → A) → Loop → Outcome A

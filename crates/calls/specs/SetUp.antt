@@ -3,11 +3,11 @@ use Prim.Native.Nat.{ℕ, suc, _+_, _-_, _*_, _/_}
 use mathlib.Core.List.{List, [], map}
 use mathlib.Core.Bool.{Bool, cond, _&&_}
 use lib.ListN.{length, replicate}
-use lib.Dec.{leb, eqb}
+use lib.Dec.{eqb}
 use Rattle.device.specs.PowerOn.{powerOn}
 use Rattle.record.specs.Record.{recordSize}
 use Rattle.record.specs.Sound.{allowed}
-use Rattle.area.specs.Sizes.{linkSize, mostDevices, itemSize, areaSize}
+use Rattle.area.specs.Sizes.{linkSize, mostDevices, isCount, itemSize, areaSize}
 use Rattle.area.specs.Parts.{parts, all}
 use Rattle.area.specs.Loop.{Loop, areaOf, shape, unsound}
 use Rattle.calls.specs.Outcome.{After, after}
@@ -20,18 +20,22 @@ devicesFor size = (size - areaSize 0) / (recordSize + linkSize)
 abbrev pub itemsOf : ℕ → List ℕ → List (List ℕ)
 itemsOf n items = parts itemSize n items
 
--- the area's length is that of 1 to 15 devices, and there is an item for each
-unfoldable pub itemsFit : ℕ → List ℕ → List ℕ → Bool
-itemsFit n a items =
-    leb 1 n && (leb n mostDevices && (eqb (length a) (areaSize n) && eqb (length items) (itemSize * n)))
+-- the area's length is that of n devices, at most so many, and there is an item for each
+unfoldable pub itemsFit : ℕ → ℕ → List ℕ → List ℕ → Bool
+itemsFit limit n a items =
+    isCount limit n && (eqb (length a) (areaSize n) && eqb (length items) (itemSize * n))
 
 -- power-on devices and empty links
 abbrev pub poweredOn : ℕ → List ℕ → Loop
 poweredOn n items = record { devices = map powerOn (itemsOf n items); links = replicate (suc n) [] }
 
-unfoldable pub setUpOf : List ℕ → List ℕ → After ℕ
-setUpOf a items =
+-- by a limit on the devices, and by the one that holds
+unfoldable pub setUpWith : ℕ → List ℕ → List ℕ → After ℕ
+setUpWith limit a items =
     let n = devicesFor (length a) in
-    cond (itemsFit n a items)
+    cond (itemsFit limit n a items)
     (cond (all allowed (itemsOf n items)) (after 0 (areaOf (poweredOn n items))) (after unsound a))
     (after shape a)
+
+abbrev pub setUpOf : List ℕ → List ℕ → After ℕ
+setUpOf a items = setUpWith mostDevices a items

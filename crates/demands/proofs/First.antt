@@ -23,9 +23,9 @@ use Rattle.calls.specs.Calls.{noTake, noHop, refusal, putIn, takeIn, hopIn, loc
 use Rattle.calls.specs.Drain.{noDrain, drainIn}
 use Rattle.calls.specs.Owed.{noOwed, owedIn}
 use Rattle.calls.specs.declared.OwedAnswer.{OwedAnswer}
-use Rattle.calls.specs.SetUp.{devicesFor, itemsFit, poweredOn, setUpOf}
+use Rattle.calls.specs.SetUp.{devicesFor, itemsFit, poweredOn, setUpOf, setUpWith}
 use Rattle.saved.specs.Saved.{saved, savedSize, savedCount, formed, contents}
-use Rattle.saved.specs.Calls.{saveOf, openWith}
+use Rattle.saved.specs.Calls.{saveOf, saveWith, openWith}
 use Rattle.demands.specs.Calls.{Byte, numbers, Action, put, hop, take, load, status, wish, drain, owes, save}
 use Rattle.demands.specs.Calls.{Call, onArea, setUp, opens, decode, encode, Answer, plain, hopped, taken}
 use Rattle.demands.specs.Calls.{drained, owing, saving, decoded, encoded, told, pil, refusalIn, bare, acts}
@@ -138,7 +138,7 @@ module _ (a : List ℕ) where
   both-turned false false = refl
 
   save-held : (out : List Byte) → Held (onArea (save out)) a (pil (onArea (save out)) a) (due (onArea (save out)) a)
-  unfolding saveOf Right
+  unfolding saveWith Right
   save-held out =
       let fits = eqb (length (numbers out)) (savedSize (countIn a)) in
       let m : Right (numbers out) (saveOf a (numbers out))
@@ -171,12 +171,12 @@ module _ (a : List ℕ) (bytes : List Byte) where
   D = devicesAt (length a)
 
   -- no number of devices has this length
-  unfit : D ≡ 0 → (n : ℕ) → itemsFit n a items ≡ false
+  unfit : D ≡ 0 → (n : ℕ) → itemsFit mostDevices n a items ≡ false
   unfolding D itemsFit
   unfit z n = go (leb 1 n) (leb n mostDevices) (eqb (length a) (areaSize n)) refl refl refl
     where
       go : (p q r : Bool) → leb 1 n ≡ p → leb n mostDevices ≡ q → eqb (length a) (areaSize n) ≡ r →
-          (p && (q && (r && eqb (length items) (itemSize * n)))) ≡ false
+          ((p && q) && (r && eqb (length items) (itemSize * n))) ≡ false
       go true true true e f g =
           let w : length a ≡ areaSize n = eqb-true _ _ g in
           let d : devicesAt (length a) ≡ n = ap devicesAt w ∙ at-is n (leb-true _ _ e) (leb-true _ _ f) in
@@ -185,16 +185,16 @@ module _ (a : List ℕ) (bytes : List Byte) where
       go true false r e f g = refl
       go false q r e f g = refl
 
-  fit : (D ≡ 0 → ⊥) → itemsFit D a items ≡ eqb (length items) (itemSize * D)
+  fit : (D ≡ 0 → ⊥) → itemsFit mostDevices D a items ≡ eqb (length items) (itemSize * D)
   unfolding D itemsFit
   fit h = let f = found-at (length a) h in rw (le-leb _ _ (f .some), le-leb _ _ (f .few), eq-eqb _ _ (f .long))
 
   set-up-right : Right a (setUpOf a items) (due (setUp bytes) a)
-  unfolding setUpOf Right D items
+  unfolding setUpWith Right D items
   set-up-right = go (eqb (devicesAt (length a)) 0) refl
     where
       go : (z : Bool) → eqb (devicesAt (length a)) 0 ≡ z →
-          Right a (cond (itemsFit (devicesFor (length a)) a items)
+          Right a (cond (itemsFit mostDevices (devicesFor (length a)) a items)
           (cond (all allowed (parts itemSize (devicesFor (length a)) items))
           (after 0 (areaOf (poweredOn (devicesFor (length a)) items))) (after 2 a)) (after 1 a))
           (cond (z || not (eqb (length items) (itemSize * devicesAt (length a)))) 1
@@ -288,12 +288,12 @@ demand-1 = record { by-table = λ c a. call-held c a .refused; changes-nothing =
 -- ---- a set-up that is not refused
 
 pub record SetsUp (a : List ℕ) (bytes : List Byte) (n : ℕ) : Type 0 where
-  pub fits : itemsFit n a (numbers bytes) ≡ true
+  pub fits : itemsFit mostDevices n a (numbers bytes) ≡ true
   pub allows : all allowed (parts itemSize n (numbers bytes)) ≡ true
   pub leaves : pil (setUp bytes) a .area ≡ areaOf (poweredOn n (numbers bytes))
 
 pub sets-up : (a : List ℕ) (bytes : List Byte) → due (setUp bytes) a ≡ 0 → SetsUp a bytes (devicesAt (length a))
-unfolding setUpOf D items
+unfolding setUpWith D items
 sets-up a bytes z = go (eqb (devicesAt (length a)) 0) refl z
   where
     rest : (h : devicesAt (length a) ≡ 0 → ⊥) (s t : Bool) →

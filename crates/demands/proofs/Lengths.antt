@@ -8,8 +8,9 @@ use native.Mathlib.Omega.{arith}
 use lib.ListN.{length}
 use lib.Dec.{eqb, leb}
 use borrow.Author.Tests.{eqb-true, eqb-false, leb-true, leb-false, ne-eqb}
-use Rattle.area.specs.Sizes.{areaSize, mostDevices}
-use Rattle.area.specs.Loop.{countIn, shaped}
+use Rattle.record.proofs.Both.{never}
+use Rattle.area.specs.Sizes.{areaSize, mostDevices, isCount}
+use Rattle.area.specs.Loop.{countIn, shaped, shapedWith}
 use Rattle.calls.specs.SetUp.{devicesFor}
 use Rattle.demands.specs.Conditions.{devicesUpTo, devicesAt}
 
@@ -62,12 +63,8 @@ none-at size h = go (eqb (devicesAt size) 0) refl
 
 -- ---- byte 0
 
--- tests of a number n for an area's length
-abbrev fits : ℕ → ℕ → Bool
-fits size n = leb 1 n && (leb n mostDevices && eqb size (areaSize n))
-
 within : (size n : ℕ) (s t : Bool) → leb 1 n ≡ s → leb n mostDevices ≡ t → size ≡ areaSize n →
-    (eqb (devicesAt size) 0 || false) ≡ not (s && (t && true))
+    (eqb (devicesAt size) 0 || false) ≡ not ((s && t) && true)
 within size n true true p q e =
     let d : devicesAt size ≡ n = ap devicesAt e ∙ at-is n (leb-true _ _ p) (leb-true _ _ q) in
     rw (d, ne-eqb n 0 (λ z. omega (arith, leb-true 1 n p)))
@@ -78,22 +75,17 @@ within size n false t p q e =
 
 pub shape-is : (a : List ℕ) →
     (eqb (devicesAt (length a)) 0 || not (eqb (length a) (areaSize (countIn a)))) ≡ not (shaped a)
-unfolding shaped
+unfolding shapedWith
 shape-is a = go (eqb (length a) (areaSize (countIn a))) refl
   where
-    none : (s t : Bool) → (s && (t && false)) ≡ false
-    none true true = refl
-    none true false = refl
-    none false t = refl
-
     or-true : (b : Bool) → (b || true) ≡ true
     or-true true = refl
     or-true false = refl
 
     go : (t : Bool) → eqb (length a) (areaSize (countIn a)) ≡ t →
-        (eqb (devicesAt (length a)) 0 || not t) ≡ not (leb 1 (countIn a) && (leb (countIn a) mostDevices && t))
+        (eqb (devicesAt (length a)) 0 || not t) ≡ not (isCount mostDevices (countIn a) && t)
     go true e = within (length a) (countIn a) _ _ refl refl (eqb-true _ _ e)
-    go false e = rw (none (leb 1 (countIn a)) (leb (countIn a) mostDevices), or-true (eqb (devicesAt (length a)) 0))
+    go false e = rw (never (isCount mostDevices (countIn a)), or-true (eqb (devicesAt (length a)) 0))
 
 -- ---- the division
 

@@ -14,3 +14,4 @@ pub mod Rendered
 pub mod Lined
 pub mod Third
 pub mod Owing
+pub mod ThirtyOne

@@ -11,7 +11,7 @@ use lib.Dec.{eqb}
 use borrow.Author.Tests.{eqb-true, eqb-false}
 use Rattle.record.specs.Fits.{Bytes}
 use Rattle.area.specs.Sizes.{areaSize}
-use Rattle.area.specs.Loop.{Loop, countIn, loopOf, areaOf, shaped, sound, judgeOf, link, Sound-loop}
+use Rattle.area.specs.Loop.{Loop, countIn, loopOf, areaOf, shaped, sound, judgeOf, judgeWith, link, Sound-loop}
 use Rattle.area.proofs.Laws.{loop-sound}
 use Rattle.calls.proofs.Owing.{loop-owes}
 use Rattle.saved.specs.Calls.{openOf}
@@ -93,7 +93,7 @@ owed-after-refusal c a h = ap hopsOwed (demand-1 .changes-nothing c a (λ z. h (
 judge-is : (a : List ℕ) (other : Bool) (k : ℕ) →
     cond (other || (eqb (devicesAt (length a)) 0 || not (eqb (length a) (areaSize (countIn a))))) 1
     (cond (not (sound a)) 2 k) ≡ 0 → judgeOf a ≡ 0
-unfolding judgeOf
+unfolding judgeWith
 judge-is a other k h = go other (shaped a) (sound a) (rw (shape-is a) at h)
   where
     go : (o s t : Bool) → _≡_ {A = ℕ} (cond (o || not s) 1 (cond (not t) 2 k)) 0 →

@@ -8,10 +8,10 @@ use native.Mathlib.Omega.{arith}
 use lib.ListN.{length}
 use lib.Dec.{eqb, ltb, leb}
 use borrow.Author.Tests.{ltb-true, ltb-false, ne-eqb, le-leb, lt-leb}
-use Rattle.area.specs.Loop.{Loop, loopOf, shaped, sound, judgeOf}
+use Rattle.area.specs.Loop.{Loop, loopOf, shaped, sound, judgeWith}
 use Rattle.area.specs.Lookup.{oldestOf}
 use Rattle.area.specs.declared.Oldest.{Oldest}
-use Rattle.calls.specs.Outcome.{Outcome, refuse, done, After, after, afterOf, callOf}
+use Rattle.calls.specs.Outcome.{Outcome, refuse, done, After, after, afterOf, callOf, callWith}
 
 -- what an outcome tells of its refusal: a refusal is no 0, and what is done answers 0
 pub data Told (A : Type 0) (get : A → ℕ) : Outcome A → ℕ → Type 0 where
@@ -33,7 +33,7 @@ module _ {A : Type 0} (get : A → ℕ) (deny : ℕ → A) (same : (k : ℕ) →
 
   pub call-met : (a : List ℕ) (call : Loop → Outcome A) (k : ℕ) → Told A get (call (loopOf a)) k →
       Met get deny a (callOf deny call a) (cond (not (shaped a)) 1 (cond (not (sound a)) 2 k))
-  unfolding callOf judgeOf
+  unfolding callWith judgeWith
   call-met a call k t = go (shaped a) (sound a)
     where
       go : (s u : Bool) → Met get deny a

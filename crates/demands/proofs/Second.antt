@@ -24,7 +24,7 @@ use Rattle.area.specs.Lookup.{oldestOf, setDevice, setLink}
 use Rattle.area.proofs.Links.{link-wide}
 use Rattle.area.proofs.Areas.{link-put}
 use Rattle.area.proofs.Laws.{loop-sound}
-use Rattle.calls.specs.Outcome.{done, After, after, callOf, reads}
+use Rattle.calls.specs.Outcome.{done, After, after, callWith, reads}
 use Rattle.calls.specs.Calls.{ofOldest, hopAnswer, sentBy, passed, passesOn, hopIn, hopOf}
 use Rattle.calls.specs.Owed.{noOwed, owedIn}
 use Rattle.calls.specs.declared.HopAnswer.{HopAnswer}
@@ -62,7 +62,7 @@ module _ (i f : ℕ) (fs a : List ℕ) (can : CanHop i f fs a) where
 
   hop-is : hopOf a i ≡ after (hopAnswer (sentBy i f (loopOf a) .frame) (sentBy i f (loopOf a) .handed))
       (areaOf (passed i f (loopOf a)))
-  unfolding callOf
+  unfolding callWith
   hop-is = rw (can .judged .sound, hop-in)
 
   -- its area, one change after the other

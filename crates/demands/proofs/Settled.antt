@@ -12,7 +12,7 @@ use Rattle.frame.specs.Messages.{frames}
 use Rattle.record_local.specs.Local.{loads, setsStatus, wishes}
 use Rattle.area.specs.Loop.{Loop, areaOf, Sound-loop}
 use Rattle.area.proofs.Laws.{loop-back, area-sound}
-use Rattle.calls.specs.Outcome.{Outcome, refuse, done, After, after, afterOf, callOf, reads}
+use Rattle.calls.specs.Outcome.{Outcome, refuse, done, After, after, afterOf, callOf, callWith, reads}
 use Rattle.calls.specs.Calls.{refusal, noHop, noTake, putIn, takeIn, hopIn, localIn}
 use Rattle.calls.specs.Drain.{noDrain, drainIn}
 use Rattle.calls.specs.Owed.{noOwed, owedIn}
@@ -63,7 +63,7 @@ module _ (m : Loop) (s : Sound-loop m) where
   settled : {A : Type 0} (kind : A → Answer) (deny : ℕ → A) (does : Loop → Outcome A) →
       IsOn (after (kind (callOf deny does (areaOf m) .answer)) (callOf deny does (areaOf m) .area))
       (settle kind deny m (does m))
-  unfolding callOf
+  unfolding callWith
   settled kind deny does = rw (area-sound m s, loop-back m s) (go (does m))
     where
       go : (o : Outcome _) →

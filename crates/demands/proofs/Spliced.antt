@@ -19,7 +19,7 @@ use Rattle.area.proofs.Parts.{splice as spliceOf}
 use Rattle.area.proofs.Links.{link-wide}
 use Rattle.area.proofs.Areas.{device-put, link-put}
 use Rattle.area.proofs.Laws.{area-back, loop-sound}
-use Rattle.calls.specs.Outcome.{Outcome, done, After, after, callOf}
+use Rattle.calls.specs.Outcome.{Outcome, done, After, after, callOf, callWith}
 use Rattle.calls.specs.Calls.{refusal, noTake, putIn, takeIn, localIn}
 use Rattle.calls.specs.declared.TakeAnswer.{TakeAnswer}
 use Rattle.calls.proofs.Outcomes.{take-done}
@@ -56,7 +56,7 @@ module _ (a : List ℕ) (j : Judged a) where
   -- a call that is done on the loop
   call-area : {A : Type 0} (deny : ℕ → A) (call : Loop → Outcome A) (r : A) (m : Loop) (x : List ℕ) →
       call (loopOf a) ≡ done r m → areaOf m ≡ x → callOf deny call a ≡ after r x
-  unfolding callOf
+  unfolding callWith
   call-area deny call r m x e f = rw (j .sound, e, f)
 
   pub put-leaves : (f : ℕ) → f < frames → length (link (loopOf a) 0) < depth →

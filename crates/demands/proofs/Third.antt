@@ -10,7 +10,7 @@ use borrow.Author.Tests.{lt-ltb}
 use Rattle.frame.specs.Messages.{frames}
 use Rattle.device.specs.PowerOn.{powerOn}
 use Rattle.device.specs.declared.Device.{Device}
-use Rattle.area.specs.Sizes.{itemSize}
+use Rattle.area.specs.Sizes.{mostDevices, itemSize}
 use Rattle.area.specs.Loop.{Loop, countIn, loopOf, areaOf, link, Sound-loop}
 use Rattle.area.proofs.Parts.{length-parts}
 use Rattle.area.proofs.Laws.{loop-back}
@@ -229,7 +229,7 @@ module _ (a : List ℕ) (items : List Byte) (set : due (setUp items) a ≡ 0) wh
   pub fresh-good : Sound-loop (toLoop (line.idle ds))
   fresh-good =
       let s = sets-up a items set in
-      rw powered-idle (set-up-sound n a (numbers items) (numbers-bytes items) (s .fits) (s .allows))
+      rw powered-idle (set-up-sound mostDevices n a (numbers items) (numbers-bytes items) (s .fits) (s .allows))
 
   pub fresh-area : pil (setUp items) a .area ≡ areaOf (toLoop (line.idle ds))
   fresh-area = sets-up a items set .leaves ∙ ap areaOf (sym powered-idle)

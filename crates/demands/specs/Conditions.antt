@@ -36,7 +36,7 @@ badOutput (drain b) a = false
 badOutput owes a = false
 badOutput (save out) a = not (eqb (length (numbers out)) (savedSize (countIn a)))
 
--- 1, Shape: the area's length isn't one of 1 to 15 devices, or not that of byte 0, or a save's output is wrong;
+-- 1, Shape: the area's length isn't one of 1 to mostDevices devices, or not that of byte 0, or a save's output is wrong;
 -- at set up the items' length isn't 12n for the n of the area's length;
 -- at an opening the area's length isn't that of the number of devices in the save
 abbrev pub Shape : Call → List ℕ → Bool
@@ -160,7 +160,7 @@ Busy (drain b) a = false
 Busy owes a = false
 Busy (save out) a = false
 
--- 10, BadSave: what is to be opened isn't in the form of a save of 1 to 15 devices
+-- 10, BadSave: what is to be opened isn't in the form of a save of 1 to mostDevices devices
 abbrev pub BadSave : Call → Bool
 BadSave (onArea c) = false
 BadSave (setUp items) = false

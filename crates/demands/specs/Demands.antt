@@ -1,10 +1,10 @@
--- The three demands on the model, and what 02 asks of the hops owed (k) and of saved loops (a), over the very
--- definitions that the contracts of the exported functions cite.
+-- The three demands on the model, and what 02 asks of the hops owed (k), of saved loops (a) and of the limit on devices
+-- (j), over the very definitions that the contracts of the exported functions cite.
 -- It leans on Calls, Conditions, Drains, Histories (the crate teeth says what it shuts out); frame's Messages,
 -- Decoding, Coding, Laws; coding's Coding; device's Sent, and Take with the rules that it names; record_local's Local;
 -- record's Record, Parts, Sound, Fits; area's Sizes, Parts, Link, Loop, Lookup; calls' Outcome, Calls, Drain, SetUp,
--- Owed; saved's Saved, Calls, Laws; order's Line, Flat, History, RightRound, Through, Owed, which have names of their
--- own.
+-- Owed; saved's Saved, Calls, Laws; limits' Limits; order's Line, Flat, History, RightRound, Through, Owed, which have
+-- names of their own.
 use Prim.Native.Nat.{ℕ, suc, _+_, _*_, _≤_, _<_}
 use mathlib.Core.Path.{_≡_}
 use mathlib.Core.List.{List, [], _∷_, _++_, tail}
@@ -17,14 +17,16 @@ use Rattle.device.specs.Sent.{Sent}
 use Rattle.record.specs.Record.{recordOf}
 use Rattle.record.specs.Parts.{splice}
 use Rattle.record.specs.Fits.{Bytes}
-use Rattle.area.specs.Sizes.{depth, recordAt, linkAt}
+use Rattle.area.specs.Sizes.{depth, mostDevices, recordAt, linkAt}
 use Rattle.area.specs.Link.{linkOf}
 use Rattle.area.specs.Loop.{countIn, loopOf, areaOf, judgeOf, device, link}
+use Rattle.area.specs.Lookup.{blankOf}
 use Rattle.calls.specs.Outcome.{After, after}
 use Rattle.calls.specs.Calls.{hopAnswer}
 use Rattle.calls.specs.SetUp.{poweredOn}
 use Rattle.saved.specs.Saved.{saved, contents}
 use Rattle.saved.specs.Laws.{SavedLong, OpenAfterSave, OpenOver, OneForm, SaveOpened, SavedOnce}
+use Rattle.limits.specs.Limits.{Agree, RefusesMore}
 use Rattle.order.specs.History.{callsIn, hopsIn, sumOver}
 use Rattle.order.specs.Owed.{owed}
 use Rattle.demands.specs.Calls.{Byte, numbers, put, hop, take, drain, owes, save, Call, onArea, setUp, opens}
@@ -280,3 +282,17 @@ pub record SavedLoops : Type 0 where
   pub one-form : OneForm
   pub save-opened : SaveOpened
   pub saved-once : SavedOnce
+
+-- ---- Thirty-one devices (02, j)
+
+-- the most devices of a loop before
+abbrev pub formerMost : ℕ
+formerMost = 15
+
+pub record ThirtyOne : Type 1 where
+  -- The longest area, here of devices that can do nothing, has no refusal, and 2,312 bytes.
+  pub longest : (judgeOf (areaOf (blankOf mostDevices)) ≡ 0) × (length (areaOf (blankOf mostDevices)) ≡ 2312)
+  -- What has at most fifteen devices is judged, used, set up, saved and opened as by the limit before,
+  pub as-before : Agree formerMost mostDevices
+  -- and a reader by that limit refuses what has more with 10, and the area that it was lent stays as it was.
+  pub refused-before : RefusesMore formerMost

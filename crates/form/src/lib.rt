@@ -1,5 +1,5 @@
 // Whether a save has the form: its count, its length, every record's length and kind.
-use area::MOST_DEVICES;
+use area::is_count;
 use saved::DEVICE;
 use saved::DEVICE_RECORD;
 use saved::HEAD_SIZE;
@@ -65,10 +65,7 @@ pub fn form_right(save: &[u8]) -> bool
         return false;
     }
     let n = save[HEAD_SIZE] as usize;
-    if n < 1 {
-        return false;
-    }
-    if MOST_DEVICES < n {
+    if !is_count(n) {
         return false;
     }
     let end = saved_size(n);

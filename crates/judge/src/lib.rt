@@ -2,10 +2,10 @@
 pub mod contents;
 
 use crate::contents::contents_sound;
-use area::MOST_DEVICES;
 use area::SHAPE;
 use area::UNSOUND;
 use area::area_size;
+use area::is_count;
 ghost use mathlib.Core.Path.{_≡_};
 ghost use Rattle.area.specs.Loop.{shaped, judgeOf};
 
@@ -17,7 +17,7 @@ pub fn shape_right(area: &[u8]) -> bool
         return false;
     }
     let n = area[0] as usize;
-    (1 <= n) & ((n <= MOST_DEVICES) & (area.len() == area_size(n)))
+    is_count(n) & (area.len() == area_size(n))
 }
 
 // An area's refusal, 0 for none.

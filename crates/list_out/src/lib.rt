@@ -1,9 +1,11 @@
 // The listing of a script, written to standard output chunk by chunk, and behind a `bad` or `long` the words for it to
 // standard error.
 use libc::STDOUT_FILENO;
+use lister::AREA_ROOM;
 use lister::Chunk;
 use lister::LONGEST;
 use lister::Next;
+use lister::TEXT_ROOM;
 ghost use Prim.Native.Nat.{_≤_};
 ghost use lib.ListN.{length};
 
@@ -43,8 +45,8 @@ fn rest(input: &[u8], first: Next, area: &mut [u8], out: &mut [u8]) {
 }
 
 pub fn print(input: &[u8]) {
-    let mut area = io::buffer();
-    let mut out = io::buffer();
+    let mut area = [0u8; AREA_ROOM];
+    let mut out = [0u8; TEXT_ROOM];
     let chunk = lister::start(input, &mut area, &mut out);
     if !write(&out, chunk.written) {
         return;

@@ -1,12 +1,12 @@
--- The set-up of line 1: refused but for 1 to 15 devices, and otherwise the same whatever the area held before.
+-- The set-up of line 1: refused but for a number of devices that a loop can have, and otherwise the same whatever the area held before.
 use Prim.Native.Nat.{ℕ, _+_, _*_, _≤_, _<_}
 use mathlib.Core.Path.{_≡_, refl, ap, _∙_}
 use mathlib.Core.List.{List, [], _∷_, map}
 use mathlib.Core.Bool.{Bool, true, false, _&&_, cond}
 use native.Mathlib.Omega.{arith}
-use lib.Dec.{eqb, leb}
+use lib.Dec.{eqb}
 use lib.ListN.{length, replicate, length-map, length-replicate}
-use borrow.Author.Tests.{eq-eqb, eqb-true, leb-true, le-leb}
+use borrow.Author.Tests.{eq-eqb, eqb-true, le-leb}
 use Rattle.device.specs.PowerOn.{powerOn}
 use Rattle.record.specs.Fits.{Bytes}
 use Rattle.record.specs.Sound.{allowed}
@@ -17,8 +17,8 @@ use Rattle.area.specs.Parts.{all, join}
 use Rattle.area.specs.Loop.{shape, unsound, areaOf}
 use Rattle.area.proofs.Parts.{length-join, length-parts}
 use Rattle.calls.specs.Outcome.{after}
-use Rattle.calls.specs.SetUp.{devicesFor, itemsOf, itemsFit, poweredOn, setUpOf}
-use Rattle.calls.proofs.Powered.{set-up-sound}
+use Rattle.calls.specs.SetUp.{devicesFor, itemsOf, itemsFit, poweredOn, setUpOf, setUpWith}
+use Rattle.calls.proofs.Powered.{set-up-sound, items-fit as what-fits}
 use Rattle.text.specs.Words.{loopWord, begins}
 use Rattle.text.specs.Digits.{numberAt}
 use Rattle.script.specs.Script.{wordSize, devicesIn, groupsIn, groupSize, groupRight, loopRight, itemOf, itemsIn}
@@ -33,29 +33,22 @@ items-long line = length-join itemOf itemSize (λ g. refl) (groupsIn line) ∙
 -- the wrong number of devices
 pub set-up-refused : (a items : List ℕ) (n : ℕ) → length items ≡ itemSize * n → ((1 ≤ n) → (n ≤ mostDevices) → ⊥) →
     setUpOf a items ≡ after shape a
-unfolding setUpOf itemsFit
-set-up-refused a items n e no-fit = go (itemsFit (devicesFor (length a)) a items) refl
+unfolding setUpWith
+set-up-refused a items n e no-fit = go (itemsFit mostDevices (devicesFor (length a)) a items) refl
   where
-    go : (t : Bool) → itemsFit (devicesFor (length a)) a items ≡ t →
+    go : (t : Bool) → itemsFit mostDevices (devicesFor (length a)) a items ≡ t →
         cond t
         (cond (all allowed (itemsOf (devicesFor (length a)) items))
         (after 0 (areaOf (poweredOn (devicesFor (length a)) items))) (after unsound a))
         (after shape a) ≡ after shape a
     go false p = refl
     go true p =
-        let m = devicesFor (length a) in
-        let i = eqb (length items) (itemSize * m) in
-        let l = eqb (length a) (areaSize m) in
-        let h1 = right (leb 1 m) (leb m mostDevices && (l && i)) p in
-        let h2 = right l i (right (leb m mostDevices) (l && i) h1) in
-        let some = leb-true 1 m (left (leb 1 m) (leb m mostDevices && (l && i)) p) in
-        let few = leb-true m mostDevices (left (leb m mostDevices) (l && i) h1) in
-        let same = eqb-true (length items) (itemSize * m) h2 in
-        absurd (no-fit (omega arith) (omega arith))
+        let f = what-fits mostDevices (devicesFor (length a)) a items p in
+        absurd (no-fit (omega (arith, f .some, f .items)) (omega (arith, f .few, f .items)))
 
 -- the right number
 pub items-fit : (a items : List ℕ) (n : ℕ) → 1 ≤ n → n ≤ mostDevices → length a ≡ areaSize n →
-    length items ≡ itemSize * n → itemsFit n a items ≡ true
+    length items ≡ itemSize * n → itemsFit mostDevices n a items ≡ true
 unfolding itemsFit
 items-fit a items n s f l e =
     rw (le-leb 1 n s, le-leb n mostDevices f, eq-eqb (length a) (areaSize n) l, eq-eqb (length items) (itemSize * n) e)
@@ -63,7 +56,7 @@ items-fit a items n s f l e =
 pub set-up-done : (a items : List ℕ) (n : ℕ) → 1 ≤ n → n ≤ mostDevices → length a ≡ areaSize n →
     length items ≡ itemSize * n →
     setUpOf a items ≡ cond (all allowed (itemsOf n items)) (after 0 (areaOf (poweredOn n items))) (after unsound a)
-unfolding setUpOf
+unfolding setUpWith
 set-up-done a items n s f l e =
     let m : devicesFor (length a) ≡ n = omega arith in rw (m, items-fit a items n s f l e)
 
@@ -74,7 +67,7 @@ powered items n s f e b h =
     let a : List ℕ = replicate (areaSize n) 0 in
     record {
       loop = poweredOn n items;
-      sound = set-up-sound n a items b (items-fit a items n s f (length-replicate (areaSize n) 0) e) h;
+      sound = set-up-sound mostDevices n a items b (items-fit a items n s f (length-replicate (areaSize n) 0) e) h;
       is = refl;
       count = length-map (itemsOf n items) powerOn ∙ length-parts itemSize n items;
     }

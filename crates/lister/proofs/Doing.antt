@@ -7,15 +7,16 @@ use native.Mathlib.Nat.{zero-add, add-sub-cancel-left}
 use native.Mathlib.Omega.{arith}
 use lib.Dec.{eqb, leb}
 use lib.ListN.{length, take, drop, take-append-drop, length-append, length-take, length-drop}
-use lib.Seq.{length-take-le, take-length}
-use borrow.Author.Tests.{eqb-true, eq-eqb, leb-true, le-leb, lt-leb, lt-ltb, le-ltb}
-use Rattle.record.proofs.Both.{left, right}
+use lib.Seq.{length-take-le, take-length, getD-take}
+use borrow.Author.Tests.{eqb-true, eq-eqb, leb-true, le-leb, lt-ltb, le-ltb}
+use Rattle.record.proofs.Both.{left, right, never}
 use Rattle.record.specs.Parts.{splice}
 use Rattle.record.specs.Sound.{allowed}
-use Rattle.area.specs.Sizes.{mostDevices, itemSize, areaSize}
+use Rattle.area.specs.Sizes.{mostDevices, isCount, itemSize, areaSize}
 use Rattle.area.specs.Parts.{parts, join, all}
-use Rattle.area.specs.Loop.{countIn, judgeOf, areaOf, unsound}
+use Rattle.area.specs.Loop.{countIn, shapedWith, judgeWith, judgeOf, areaOf, unsound}
 use Rattle.area.proofs.Parts.{rest-is}
+use Rattle.area.proofs.Areas.{judge-zero, is-shaped}
 use Rattle.calls.specs.Outcome.{After, after, Is}
 use Rattle.calls.specs.SetUp.{itemsOf, poweredOn, setUpOf}
 use Rattle.bytes.specs.Bytes.{indexOf, slice}
@@ -50,7 +51,7 @@ pub record Devices (line : List ℕ) (n : ℕ) : Type 0 where
 
 module _ (line : List ℕ) where
   abbrev range : Bool
-  range = leb 1 (devicesIn line) && leb (devicesIn line) mostDevices
+  range = isCount mostDevices (devicesIn line)
 
   pub devices : (n : ℕ) → loopIn line ≡ LoopLine.Devices n → Devices line n
   devices n h = go (loopRight line) range refl refl h
@@ -148,14 +149,17 @@ module _ (n : ℕ) (a : List ℕ) (room : ℕ) where
   unfolding ready
   not-roomy h = rw h
 
-  pub not-few : roomy a room ≡ true → mostDevices < countIn a → ready n a room ≡ false
-  unfolding ready
-  not-few h p = rw (h, lt-leb (countIn a) mostDevices p)
+  -- byte 0 is among the loop's bytes
+  same-count : countIn (loopBytes a) ≡ countIn a
+  same-count = getD-take (sizeIn a) a 0 0 (omega arith)
 
-  pub ready-is : roomy a room ≡ true → countIn a ≤ mostDevices →
-      ready n a room ≡ (leb n longest && eqb (judgeOf (loopBytes a)) 0)
+  pub not-count : isCount mostDevices (countIn a) ≡ false → ready n a room ≡ false
+  unfolding ready judgeWith shapedWith
+  not-count h = rw (same-count, h, never, never)
+
+  pub ready-is : roomy a room ≡ true → ready n a room ≡ (leb n longest && eqb (judgeOf (loopBytes a)) 0)
   unfolding ready
-  ready-is h p = rw (h, le-leb (countIn a) mostDevices p)
+  ready-is h = rw h
 
   pub record Ready : Type 0 where
     pub lent : Lent a room
@@ -167,16 +171,15 @@ module _ (n : ℕ) (a : List ℕ) (room : ℕ) where
   unfolding ready
   is-ready h =
       let p = roomy a room in
-      let q = leb (countIn a) mostDevices in
       let r = leb n longest in
       let s = eqb (judgeOf (loopBytes a)) 0 in
-      let h1 = right p (q && (r && s)) h in
-      let h2 = right q (r && s) h1 in
+      let h1 = right p (r && s) h in
+      let j = eqb-true (judgeOf (loopBytes a)) 0 (right r s h1) in
       record {
-        lent = lent a room (left p (q && (r && s)) h);
-        few = leb-true (countIn a) mostDevices (left q (r && s) h1);
-        number = leb-true n longest (left r s h2);
-        judged = eqb-true (judgeOf (loopBytes a)) 0 (right r s h2);
+        lent = lent a room (left p (r && s) h);
+        few = rw same-count at (is-shaped (loopBytes a) (judge-zero (loopBytes a) j .0) .few);
+        number = leb-true n longest (left r s h1);
+        judged = j;
       }
 
 -- ---- the line that was found

@@ -11,7 +11,7 @@ use lib.ListN.{length, drop, length-append, length-drop, drop-of-length-le, List
 use lib.Seq.{take-at, drop-at, drop-drop, length-take-le}
 use borrow.Author.Tests.{ltb-true, ltb-false, lt-ltb, le-ltb, le-leb}
 use Rattle.bytes.specs.Bytes.{indexOf}
-use Rattle.area.specs.Sizes.{mostDevices, areaSize}
+use Rattle.area.specs.Sizes.{areaSize}
 use Rattle.area.specs.Loop.{countIn}
 use Rattle.text.specs.Words.{newline}
 use Rattle.text.specs.Digits.{numberAt}
@@ -25,7 +25,7 @@ use Rattle.lister.specs.Chunks.{stepDoes}
 use Rattle.lister.specs.Laws.{textFrom, nextFrom}
 use Rattle.lister.specs.declared.Next.{Next}
 use Rattle.lister.proofs.Cut.{index-within, lines-cut}
-use Rattle.round.proofs.Held.{Area, judged, counted, few, long, round-held}
+use Rattle.round.proofs.Held.{Area, judged, counted, long, round-held}
 
 -- ---- a loop's area at the front of the lent one
 
@@ -47,7 +47,6 @@ module _ {m : ℕ} {a : List ℕ} (h : Area m a) (rest : List ℕ) where
         le-leb areaRoom (length (a ++ rest)) w,
         le-leb textRoom room r,
         front-count,
-        le-leb m mostDevices (few h),
         le-leb n longest k,
         take-at a rest (areaSize m) (long h),
         judged h,

@@ -89,7 +89,7 @@ lineDoes line at n area =
 
 unfoldable pub ready : ℕ → List ℕ → ℕ → Bool
 ready n area room =
-    roomy area room && (leb (countIn area) mostDevices && (leb n longest && eqb (judgeOf (loopBytes area)) 0))
+    roomy area room && (leb n longest && eqb (judgeOf (loopBytes area)) 0)
 
 unfoldable pub stepDoes : List ℕ → ℕ → ℕ → List ℕ → ℕ → Does
 stepDoes input at n area room =

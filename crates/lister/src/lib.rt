@@ -2,8 +2,6 @@
 // of the listing, `step` each further one, over an area and a buffer that the caller lends.
 mod list;
 
-use area::HEADER_SIZE;
-use area::LINK_SIZE;
 use area::MOST_DEVICES;
 pub use list::start;
 pub use list::step;
@@ -17,9 +15,7 @@ pub const LONGEST: usize = 60000;
 // Bytes of the longest chunk, a hand line for each device and a frame line, and of the largest area.
 pub const TEXT_ROOM: usize = HAND_SIZE * MOST_DEVICES + FRAME_SIZE;
 
-pub const AREA_ROOM: usize = HEADER_SIZE
-    + record::SIZE * MOST_DEVICES
-    + LINK_SIZE * (MOST_DEVICES + 1);
+pub const AREA_ROOM: usize = area::LARGEST;
 
 // Where the listing goes on: at a line's place, with its number, or nowhere. Refused: what was lent is too small or
 // holds no loop, or the number is no line's, and nothing was done.

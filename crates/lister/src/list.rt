@@ -7,6 +7,7 @@ use crate::TEXT_ROOM;
 use area::ITEM_SIZE;
 use area::MOST_DEVICES;
 use area::area_size;
+use area::is_count;
 use judge::judge;
 use round::round;
 use script::FrameLine;
@@ -44,7 +45,7 @@ fn is_ready(number: usize, area: &[u8], out: &[u8]) -> bool
         return false;
     }
     let n = area[0] as usize;
-    if n > MOST_DEVICES {
+    if !is_count(n) {
         return false;
     }
     let size = area_size(n);

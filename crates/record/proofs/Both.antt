@@ -17,6 +17,10 @@ pub right : (a b : Bool) → (a && b) ≡ true → b ≡ true
 right true b h = h
 right false b h = let z : false ≡ true = h in cc
 
+pub never : (a : Bool) → (a && false) ≡ false
+never true = refl
+never false = refl
+
 pub passed : {a b r x : Bool} → r ≡ a → r ≡ true → x ≡ b → x ≡ (a && b)
 passed e t h = rw (← e, t) h
 

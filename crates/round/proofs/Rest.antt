@@ -16,12 +16,13 @@ use Rattle.device.specs.declared.Handed.the-variants as handed
 use Rattle.record.specs.Fits.{Bytes}
 use Rattle.record.specs.Sound.{allowed}
 use Rattle.area.specs.Parts.{all}
+use Rattle.area.specs.Sizes.{mostDevices}
 use Rattle.area.specs.Loop.{Loop, size, areaOf, countIn, link, shape, unsound, Sound-loop}
 use Rattle.area.specs.Lookup.{setDevice, add, remove}
 use Rattle.area.proofs.Each.{each-same}
 use Rattle.calls.specs.Outcome.{Outcome, done, After, after, afterOf, callOf}
 use Rattle.calls.specs.Laws.{Kept, Keeps}
-use Rattle.calls.specs.SetUp.{devicesFor, itemsOf, itemsFit, poweredOn, setUpOf}
+use Rattle.calls.specs.SetUp.{devicesFor, itemsOf, itemsFit, poweredOn, setUpWith}
 use Rattle.calls.proofs.Powered.{set-up-sound}
 use Rattle.calls.specs.Calls.{refusal, noHop, noTake, hopAnswer, sentBy, passed, putIn, hopIn, takeIn, hopOf, takeOf}
 use Rattle.calls.specs.declared.HopAnswer.{HopAnswer}
@@ -178,19 +179,19 @@ never-refused f a small r =
 
 -- a set-up that is done, whatever n its area's length gives
 powered : (n : ℕ) (a items : List ℕ) → Bytes items →
-    let o = cond (itemsFit n a items)
+    let o = cond (itemsFit mostDevices n a items)
     (cond (all allowed (itemsOf n items)) (after 0 (areaOf (poweredOn n items))) (after unsound a))
     (after shape a) in
     o .answer ≡ 0 → AtRest (o .area)
-powered n a items small h = go (itemsFit n a items) (all allowed (itemsOf n items)) refl refl h
+powered n a items small h = go (itemsFit mostDevices n a items) (all allowed (itemsOf n items)) refl refl h
   where
-    go : (t u : Bool) → itemsFit n a items ≡ t → all allowed (itemsOf n items) ≡ u →
+    go : (t u : Bool) → itemsFit mostDevices n a items ≡ t → all allowed (itemsOf n items) ≡ u →
         cond t (cond u (after 0 (areaOf (poweredOn n items))) (after unsound a)) (after shape a) .answer ≡ 0 →
         AtRest (cond t (cond u (after 0 (areaOf (poweredOn n items))) (after unsound a)) (after shape a) .area)
     go true true p q e =
         record {
           loop = poweredOn n items;
-          sound = set-up-sound n a items small p q;
+          sound = set-up-sound mostDevices n a items small p q;
           is = refl;
           empty = each-same (λ (fs : List ℕ). fs ≡ []) [] refl (suc n);
         }
@@ -198,5 +199,5 @@ powered n a items small h = go (itemsFit n a items) (all allowed (itemsOf n item
     go false u p q e = let y : ⊥ = omega arith in absurd y
 
 pub set-up-rests : SetUpRests
-unfolding setUpOf
+unfolding setUpWith
 set-up-rests a items small h = powered (devicesFor (length a)) a items small h

@@ -1,5 +1,9 @@
 // Runs 01's cases under "Run:", and prints what happened in each, a line a case.
 use area::HEADER_SIZE;
+use area::ITEM_SIZE;
+use area::LARGEST;
+use area::LINK_SIZE;
+use area::MOST_DEVICES;
 use print::decimal;
 use print::hex;
 use print::text;
@@ -15,8 +19,8 @@ fn main() {
     loaded(b"12345678901234567890123456789012");
     loaded(b"123456789012345678901234567890123");
     text(b"loop\n");
-    fifteen();
-    sixteen();
+    most_devices();
+    one_too_many();
     puts();
     five();
 }
@@ -94,15 +98,15 @@ fn set_up(area: &mut [u8], items: &[u8]) {
     text(b"\n");
 }
 
-fn fifteen() {
-    let mut area = [0u8; 1128];
-    let items = [0u8; 180];
+fn most_devices() {
+    let mut area = [0u8; LARGEST];
+    let items = [0u8; ITEM_SIZE * MOST_DEVICES];
     set_up(&mut area, &items);
 }
 
-fn sixteen() {
-    let mut area = [0u8; 1202];
-    let items = [0u8; 192];
+fn one_too_many() {
+    let mut area = [0u8; LARGEST + record::SIZE + LINK_SIZE];
+    let items = [0u8; ITEM_SIZE * (MOST_DEVICES + 1)];
     set_up(&mut area, &items);
 }
 

@@ -14,7 +14,7 @@ use Rattle.record.proofs.Both.{left, right}
 use Rattle.area.specs.Sizes.{headerSize, linkSize, mostDevices, areaSize}
 use Rattle.area.specs.Parts.{all}
 use Rattle.area.specs.Link.{soundLink}
-use Rattle.area.specs.Loop.{countIn, recordsIn, linksIn, shaped, Shaped, sound}
+use Rattle.area.specs.Loop.{countIn, recordsIn, linksIn, shaped, shapedWith, Shaped, sound}
 use Rattle.saved.specs.Saved.{headerKind, deviceKind, linkKind, headSize, headOf, recorded, body, saved}
 use Rattle.saved.specs.Saved.{savedHeaderSize, savedDeviceSize, savedLinkSize, savedSize, savedCount}
 use Rattle.saved.specs.Saved.{savedHeader, savedDevices, savedLinks, formed, contents}
@@ -165,7 +165,7 @@ is-formed limit s h =
     }
 
 pub held-shaped : (s : List ℕ) → Formed mostDevices s → shaped (contents s) ≡ true
-unfolding shaped
+unfolding shapedWith
 held-shaped s f =
     rw (
       count-held s (f .long),

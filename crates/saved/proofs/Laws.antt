@@ -12,7 +12,7 @@ use Rattle.record.specs.Fits.{Bytes}
 use Rattle.record.proofs.Bytes.{small-bytes, bytes-append}
 use Rattle.area.specs.Sizes.{headerSize, linkSize, mostDevices, recordAt, areaSize}
 use Rattle.area.specs.Parts.{parts, join}
-use Rattle.area.specs.Loop.{countIn, recordsIn, shaped, judgeOf, sound, shape, unsound}
+use Rattle.area.specs.Loop.{countIn, recordsIn, shaped, judgeOf, judgeWith, sound, shape, unsound}
 use Rattle.area.proofs.Parts.{bytes-part}
 use Rattle.area.proofs.Each.{each-bytes}
 use Rattle.area.proofs.Areas.{judge-zero, is-shaped}
@@ -20,7 +20,7 @@ use Rattle.calls.specs.Outcome.{After, after}
 use Rattle.saved.specs.Saved.{headerKind, deviceKind, linkKind, headSize, headOf, recorded, body, saved}
 use Rattle.saved.specs.Saved.{savedHeaderSize, savedDeviceSize, savedLinkSize, savedLinksAt, savedSize}
 use Rattle.saved.specs.Saved.{savedCount, savedHeader, savedDevices, formed, contents}
-use Rattle.saved.specs.Calls.{badSave, saveOf, openWith, openOf}
+use Rattle.saved.specs.Calls.{badSave, saveOf, saveWith, openWith, openOf}
 use Rattle.saved.specs.Laws.{SavedLong, OpenAfterSave, OpenOver, OneForm, SaveOpened, SavedOnce}
 use Rattle.saved.specs.Laws.{SavedBytes, ContentsBytes}
 use Rattle.saved.proofs.Formed.{Formed, is-formed, held-shaped, saved-held, saved-long}
@@ -32,7 +32,7 @@ saved-is-long a h = (omega arith, saved-long a (is-shaped a (judge-zero a h .0))
 
 -- what a save that was done says
 pub save-is : (a out s : List ℕ) → saveOf a out ≡ after 0 s → (judgeOf a ≡ 0) × (saved a ≡ s)
-unfolding saveOf judgeOf
+unfolding saveWith judgeWith
 save-is a out s h = go (shaped a) (eqb (length out) (savedSize (countIn a))) (sound a) h
   where
     refused : (k : ℕ) → _≡_ {A = After ℕ} (after k out) (after 0 s) → k ≡ 0
@@ -91,7 +91,7 @@ pub open-is : (a lent s : List ℕ) → openOf lent s ≡ after 0 a → contents
 open-is a lent s h = opened a lent s h .is
 
 zero-judge : (a : List ℕ) → shaped a ≡ true → sound a ≡ true → judgeOf a ≡ 0
-unfolding judgeOf
+unfolding judgeWith
 zero-judge a h k = rw (h, k)
 
 pub one-form : OneForm

@@ -5,30 +5,31 @@ use mathlib.Core.Bool.{Bool, true, false, _&&_}
 use Prim.Native.Nat.{ℕ, _≤_, _<_}
 use native.Mathlib.Omega.{arith}
 use lib.ListN.{length, List·getD-eq-default}
-use borrow.Author.Tests.{eq-eqb, ne-eqb, le-leb, lt-leb}
-use Rattle.area.specs.Sizes.{areaSize}
+use borrow.Author.Tests.{eq-eqb, ne-eqb, lt-leb}
+use Rattle.record.proofs.Both.{never}
+use Rattle.area.specs.Sizes.{isCount, areaSize}
 use Rattle.area.specs.Loop.{countIn, shaped, sound, shape, unsound}
 use Rattle.calls.specs.Outcome.{after}
 use Rattle.saved.specs.Saved.{headSize, saved, savedSize, savedCount, headed, formed, contents}
-use Rattle.saved.specs.Calls.{badSave, saveOf, openWith}
+use Rattle.saved.specs.Calls.{badSave, saveOf, saveWith, openWith}
 
 module _ (a out : List ℕ) where
   pub save-shape : shaped a ≡ false → saveOf a out ≡ after shape out
-  unfolding saveOf
+  unfolding saveWith
   save-shape h = rw h
 
   pub save-long : shaped a ≡ true → (length out ≡ savedSize (countIn a) → ⊥) → saveOf a out ≡ after shape out
-  unfolding saveOf
+  unfolding saveWith
   save-long h k = rw (h, ne-eqb _ _ k)
 
   pub save-unsound : shaped a ≡ true → length out ≡ savedSize (countIn a) → sound a ≡ false →
       saveOf a out ≡ after unsound out
-  unfolding saveOf
+  unfolding saveWith
   save-unsound h k s = rw (h, eq-eqb _ _ k, s)
 
   pub save-done : shaped a ≡ true → length out ≡ savedSize (countIn a) → sound a ≡ true →
       saveOf a out ≡ after 0 (saved a)
-  unfolding saveOf
+  unfolding saveWith
   save-done h k s = rw (h, eq-eqb _ _ k, s)
 
 module _ (limit : ℕ) (a s : List ℕ) where
@@ -53,27 +54,21 @@ module _ (limit : ℕ) (a s : List ℕ) where
 
 -- ---- the form of a save
 
-never : (t : Bool) → (t && false) ≡ false
-never true = refl
-never false = refl
-
 module _ (limit : ℕ) (s : List ℕ) where
-  pub form-none : savedCount s < 1 → false ≡ formed limit s
+  pub form-count : isCount limit (savedCount s) ≡ false → false ≡ formed limit s
   unfolding formed
-  form-none h = rw (lt-leb _ _ h)
+  form-count h = rw h
 
   pub form-many : limit < savedCount s → false ≡ formed limit s
-  unfolding formed
-  form-many h = rw (lt-leb _ _ h, never)
+  form-many h = form-count (rw (lt-leb _ _ h, never))
 
   pub form-short : length s ≤ headSize → false ≡ formed limit s
-  form-short h = form-none (rw (List·getD-eq-default s 0 {n = headSize} h) (omega arith))
+  form-short h = form-count (rw (List·getD-eq-default s 0 {n = headSize} h))
 
   pub form-long : (length s ≡ savedSize (savedCount s) → ⊥) → false ≡ formed limit s
   unfolding formed
-  form-long h = rw (ne-eqb _ _ h, never, never)
+  form-long h = rw (ne-eqb _ _ h, never)
 
-  pub form-heads : 1 ≤ savedCount s → savedCount s ≤ limit → length s ≡ savedSize (savedCount s) →
-      headed s ≡ formed limit s
+  pub form-heads : isCount limit (savedCount s) ≡ true → length s ≡ savedSize (savedCount s) → headed s ≡ formed limit s
   unfolding formed headed
-  form-heads h k l = rw (le-leb _ _ h, le-leb _ _ k, eq-eqb _ _ l)
+  form-heads h l = rw (h, eq-eqb _ _ l)

@@ -5,7 +5,7 @@ use mathlib.Core.Bool.{_&&_, cond}
 use lib.ListN.{length}
 use lib.Dec.{eqb}
 use Rattle.area.specs.Sizes.{mostDevices, areaSize}
-use Rattle.area.specs.Loop.{countIn, shape, unsound, shaped, sound}
+use Rattle.area.specs.Loop.{countIn, shape, unsound, shapedWith, sound}
 use Rattle.calls.specs.Outcome.{After, after}
 use Rattle.saved.specs.Saved.{saved, savedSize, savedCount, formed, contents}
 
@@ -13,10 +13,11 @@ use Rattle.saved.specs.Saved.{saved, savedSize, savedCount, formed, cont
 abbrev pub badSave : ℕ
 badSave = 10
 
--- An area put away; what is left is the output: 1 for the area's length or the output's, then 2
-unfoldable pub saveOf : List ℕ → List ℕ → After ℕ
-saveOf a out =
-    cond (shaped a && eqb (length out) (savedSize (countIn a)))
+-- An area put away by a writer of at most so many devices; what is left is the output: 1 for the area's length or the
+-- output's, then 2
+unfoldable pub saveWith : ℕ → List ℕ → List ℕ → After ℕ
+saveWith limit a out =
+    cond (shapedWith limit a && eqb (length out) (savedSize (countIn a)))
     (cond (sound a) (after 0 (saved a)) (after unsound out))
     (after shape out)
 
@@ -29,6 +30,10 @@ openWith limit a s =
     (cond (sound (contents s)) (after 0 (contents s)) (after unsound a))
     (after shape a))
     (after badSave a)
+
+-- both by the limit that holds
+abbrev pub saveOf : List ℕ → List ℕ → After ℕ
+saveOf a out = saveWith mostDevices a out
 
 abbrev pub openOf : List ℕ → List ℕ → After ℕ
 openOf a s = openWith mostDevices a s

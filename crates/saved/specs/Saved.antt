@@ -4,9 +4,9 @@ use Prim.Native.Nat.{ℕ, zero, suc, _+_, _*_, _/_, _%_}
 use mathlib.Core.List.{List, [], _∷_, _++_, map}
 use mathlib.Core.Bool.{Bool, true, _&&_}
 use lib.ListN.{length, getD, take, drop}
-use lib.Dec.{eqb, leb}
+use lib.Dec.{eqb}
 use Rattle.record.specs.Record.{recordSize}
-use Rattle.area.specs.Sizes.{headerSize, linkSize}
+use Rattle.area.specs.Sizes.{headerSize, linkSize, isCount}
 use Rattle.area.specs.Parts.{parts, join, all}
 use Rattle.area.specs.Loop.{recordsIn, linksIn}
 
@@ -100,8 +100,7 @@ headed s =
 -- a save in form, to a reader of at most so many devices: its count, its end, and its records
 unfoldable pub formed : ℕ → List ℕ → Bool
 formed limit s =
-    leb 1 (savedCount s) &&
-    (leb (savedCount s) limit && (eqb (length s) (savedSize (savedCount s)) && headed s))
+    isCount limit (savedCount s) && (eqb (length s) (savedSize (savedCount s)) && headed s)
 
 -- the area that a save holds: its bodies
 unfoldable pub contents : List ℕ → List ℕ

@@ -6,13 +6,13 @@ use mathlib.Core.Bool.{Bool, true, false, _&&_, cond, and-true, and-assoc}
 use native.Mathlib.Nat.{zero-add}
 use native.Mathlib.Numerals.{add-one}
 use native.Mathlib.Omega.{arith}
-use lib.Dec.{eqb, ltb, leb}
+use lib.Dec.{eqb, ltb}
 use lib.ListN.{length, getD, drop, drop-of-length-le}
 use lib.Seq.{drop-cons}
 use borrow.Author.Tests.{eq-eqb, ne-eqb, ltb-true}
 use Rattle.record.proofs.Both.{left, right}
 use Rattle.frame.specs.Messages.{frames}
-use Rattle.area.specs.Sizes.{mostDevices}
+use Rattle.area.specs.Sizes.{mostDevices, isCount}
 use Rattle.area.specs.Parts.{all}
 use Rattle.text.specs.Words.{loopWord, begins}
 use Rattle.text.specs.Digits.{digitAt}
@@ -117,7 +117,7 @@ module _ (line : List ℕ) where
   unfolding loopRight
   no-groups n = rw (ne-eqb (length line) (wordSize + groupSize * devicesIn line) n) (go (begins loopWord line))
     where
-      go : (t : Bool) → cond ((t && false) && (leb 1 (devicesIn line) && leb (devicesIn line) mostDevices))
+      go : (t : Bool) → cond ((t && false) && isCount mostDevices (devicesIn line))
           (LoopLine.Devices (devicesIn line)) LoopLine.Wrong ≡ LoopLine.Wrong
       go true = refl
       go false = refl
@@ -128,7 +128,7 @@ module _ (line : List ℕ) where
     group-wrong h = rw (w, eq-eqb (length line) (wordSize + groupSize * devicesIn line) l, h)
 
     pub groups-right : all groupRight (groupsIn line) ≡ true → (t : Bool) →
-        (leb 1 (devicesIn line) && leb (devicesIn line) mostDevices) ≡ t →
+        isCount mostDevices (devicesIn line) ≡ t →
         loopIn line ≡ cond t (LoopLine.Devices (devicesIn line)) LoopLine.Wrong
     unfolding loopRight
     groups-right h t e = rw (w, eq-eqb (length line) (wordSize + groupSize * devicesIn line) l, h, e)

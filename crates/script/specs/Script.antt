@@ -2,10 +2,10 @@
 use Prim.Native.Nat.{ℕ, _+_, _-_, _*_, _/_}
 use mathlib.Core.List.{List, _∷_, map}
 use mathlib.Core.Bool.{Bool, _&&_, cond}
-use lib.Dec.{eqb, ltb, leb}
+use lib.Dec.{eqb, ltb}
 use lib.ListN.{length, getD, drop, replicate}
 use Rattle.frame.specs.Messages.{frames}
-use Rattle.area.specs.Sizes.{itemSize, mostDevices}
+use Rattle.area.specs.Sizes.{itemSize, mostDevices, isCount}
 use Rattle.area.specs.Parts.{parts, join, all}
 use Rattle.text.specs.Words.{space, loopWord, begins}
 use Rattle.text.specs.Digits.{areDigits, numberAt}
@@ -47,7 +47,7 @@ itemsIn line = join (map itemOf (groupsIn line))
 -- the devices of line 1, where there are as many as a loop can have
 abbrev pub loopIn : List ℕ → LoopLine
 loopIn line =
-    cond (loopRight line && (leb 1 (devicesIn line) && leb (devicesIn line) mostDevices))
+    cond (loopRight line && isCount mostDevices (devicesIn line))
     (LoopLine.Devices (devicesIn line))
     LoopLine.Wrong
 

@@ -1,6 +1,6 @@
 // The lines of a script, read: digits, a frame line, and line 1 with its devices (01, the lister).
 use area::ITEM_SIZE;
-use area::MOST_DEVICES;
+use area::is_count;
 use text::put;
 ghost use mathlib.Core.Path.{_≡_};
 ghost use mathlib.Core.Bool.{true};
@@ -118,7 +118,7 @@ pub fn loop_in(line: &[u8]) -> LoopLine
     if !groups_right(&line[WORD_SIZE..], n) {
         return LoopLine::Wrong;
     }
-    if (1 <= n) & (n <= MOST_DEVICES) {
+    if is_count(n) {
         return LoopLine::Devices(n);
     }
     LoopLine::Wrong

@@ -1,18 +1,18 @@
 // Set up: an item a device, and an area with any contents, which becomes that of the devices at power-on.
 use area::ITEM_SIZE;
 use area::LINK_SIZE;
-use area::MOST_DEVICES;
 use area::SHAPE;
 use area::UNSOUND;
 use area::area_size;
 use area::change::blank;
 use area::change::set_device;
+use area::is_count;
 use device::Device;
 ghost use mathlib.Core.Path.{_≡_};
 ghost use Prim.Native.Nat.{_*_, _≤_};
 ghost use lib.ListN.{length};
 ghost use Rattle.record.specs.Sound.{allowed};
-ghost use Rattle.area.specs.Sizes.{itemSize};
+ghost use Rattle.area.specs.Sizes.{mostDevices, itemSize};
 ghost use Rattle.area.specs.Parts.{all};
 ghost use Rattle.area.specs.Loop.{Holds};
 ghost use Rattle.calls.specs.Outcome.{Is};
@@ -32,13 +32,12 @@ fn devices_for(len: usize) -> usize
 
 // Whether the area's length is that of n devices, and there is an item for each.
 fn items_fit(area: &[u8], items: &[u8], n: usize) -> bool
-    ensures { λ r. ⌜ r ≡ itemsFit n (now (area .entry)) (now (items .entry)) ⌝ }
+    ensures { λ r. ⌜ r ≡ itemsFit mostDevices n (now (area .entry)) (now (items .entry)) ⌝ }
 {
-    if MOST_DEVICES < n {
+    if !is_count(n) {
         return false;
     }
-    (1 <= n)
-        & ((n <= MOST_DEVICES) & ((area.len() == area_size(n)) & (items.len() == ITEM_SIZE * n)))
+    (area.len() == area_size(n)) & (items.len() == ITEM_SIZE * n)
 }
 
 fn item_of(bytes: &[u8]) -> [u8; 12]
@@ -69,7 +68,7 @@ fn items_allowed(items: &[u8], n: usize) -> bool
 
 // The area becomes that of n allowed items.
 fn power_on(area: &mut [u8], items: &[u8], n: usize)
-    requires { ⌜ Sets n (now area) (now items) ⌝ }
+    requires { ⌜ Sets mostDevices n (now area) (now items) ⌝ }
     ensures { λ _. ⌜ Holds (now (area .exit)) (poweredOn n (now (items .entry))) ⌝ }
 {
     blank(area, n);

@@ -15,13 +15,13 @@ use Rattle.record.specs.Record.{deviceOf, recordOf, zeros}
 use Rattle.record.specs.Sound.{soundDevice, soundRecord, allowed}
 use Rattle.area.specs.Parts.{parts, join, all}
 use Rattle.area.specs.Link.{framesOf, linkOf, soundSlot, soundLink}
-use Rattle.area.specs.Loop.{loopOf, areaOf, shaped, sound, judgeOf}
-use Rattle.calls.specs.Outcome.{callOf}
+use Rattle.area.specs.Loop.{loopOf, areaOf, shapedWith, sound, judgeWith}
+use Rattle.calls.specs.Outcome.{callWith}
 use Rattle.calls.specs.Calls.{putIn, takeIn, hopIn, localIn}
 use Rattle.calls.specs.Drain.{canHop, highest, drainFrom}
-use Rattle.calls.specs.SetUp.{itemsFit, setUpOf}
+use Rattle.calls.specs.SetUp.{itemsFit, setUpWith}
 use Rattle.saved.specs.Saved.{headOf, recorded, saved, stands, isOf, headed, formed, contents}
-use Rattle.saved.specs.Calls.{saveOf, openWith}
+use Rattle.saved.specs.Calls.{saveWith, openWith}
 use Rattle.demands.specs.Histories.{areaLeft}
 use Rattle.demands.specs.Demands.{AllEmpty}
 use Rattle.teeth.specs.Example.{fresh, mixed, Example}
@@ -29,9 +29,9 @@ use Rattle.teeth.specs.Example.{fresh, mixed, Example}
 empty : AllEmpty (areaLeft fresh mixed)
 unfolding messages kindAt lookup within firstIn firstOf hasC1 offsetIn c1In choose powerOn bytesFrom lad tad aau
     marked requested polls sst nrd aad returned heard dataOrEnd takes loads deviceOf recordOf zeros soundDevice
-    soundRecord allowed parts join all framesOf linkOf soundSlot soundLink loopOf areaOf shaped sound judgeOf callOf
-    putIn takeIn hopIn localIn itemsFit setUpOf canHop highest drainFrom headOf recorded saved stands isOf headed
-    formed contents saveOf openWith
+    soundRecord allowed parts join all framesOf linkOf soundSlot soundLink loopOf areaOf shapedWith sound judgeWith
+    callWith putIn takeIn hopIn localIn itemsFit setUpWith canHop highest drainFrom headOf recorded saved stands isOf
+    headed formed contents saveWith openWith
 empty zero = refl
 empty (suc zero) = refl
 empty (suc (suc zero)) = refl
@@ -40,9 +40,9 @@ empty (suc (suc (suc j))) = refl
 pub example : Example
 unfolding messages kindAt lookup within firstIn firstOf hasC1 offsetIn c1In choose powerOn bytesFrom lad tad aau
     marked requested polls sst nrd aad returned heard dataOrEnd takes loads deviceOf recordOf zeros soundDevice
-    soundRecord allowed parts join all framesOf linkOf soundSlot soundLink loopOf areaOf shaped sound judgeOf callOf
-    putIn takeIn hopIn localIn itemsFit setUpOf canHop highest drainFrom headOf recorded saved stands isOf headed
-    formed contents saveOf openWith
+    soundRecord allowed parts join all framesOf linkOf soundSlot soundLink loopOf areaOf shapedWith sound judgeWith
+    callWith putIn takeIn hopIn localIn itemsFit setUpWith canHop highest drainFrom headOf recorded saved stands isOf
+    headed formed contents saveWith openWith
 example =
     record {
       set-up = refl;

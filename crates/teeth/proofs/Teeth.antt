@@ -24,8 +24,8 @@ use Rattle.record.specs.Fits.{Bytes}
 use Rattle.record.proofs.Both.{left, right}
 use Rattle.area.specs.Parts.{parts, join, all}
 use Rattle.area.specs.Link.{framesOf, linkOf, soundSlot, soundLink}
-use Rattle.area.specs.Loop.{countIn, loopOf, areaOf, shaped, sound, judgeOf, device, link}
-use Rattle.calls.specs.Outcome.{After, callOf}
+use Rattle.area.specs.Loop.{countIn, loopOf, areaOf, shapedWith, sound, judgeWith, device, link}
+use Rattle.calls.specs.Outcome.{After, callWith}
 use Rattle.calls.specs.Calls.{hopAnswer, hopIn}
 use Rattle.saved.specs.Saved.{saved, formed}
 use Rattle.saved.specs.Calls.{openWith, openOf}
@@ -61,7 +61,7 @@ are-bytes (x ∷ b) h (suc i) = are-bytes b (right (ltb x 256) _ h) i
 
 one-can : CanHop 0 0x580 [] one
 unfolding powerOn bytesFrom deviceOf recordOf zeros soundDevice soundRecord parts join all framesOf linkOf soundSlot
-    soundLink loopOf areaOf shaped sound judgeOf
+    soundLink loopOf areaOf shapedWith sound judgeWith
 one-can =
     record {
       judged = record { bytes = are-bytes one refl; sound = refl };
@@ -72,7 +72,7 @@ one-can =
 
 two-can : CanHop 0 0x580 [] two
 unfolding powerOn bytesFrom deviceOf recordOf zeros soundDevice soundRecord parts join all framesOf linkOf soundSlot
-    soundLink loopOf areaOf shaped sound judgeOf
+    soundLink loopOf areaOf shapedWith sound judgeWith
 two-can =
     record {
       judged = record { bytes = are-bytes two refl; sound = refl };
@@ -83,7 +83,7 @@ two-can =
 
 still-judged : Judged still
 unfolding powerOn bytesFrom deviceOf recordOf zeros soundDevice soundRecord parts join all framesOf linkOf soundSlot
-    soundLink loopOf areaOf shaped sound judgeOf
+    soundLink loopOf areaOf shapedWith sound judgeWith
 still-judged = record { bytes = are-bytes still refl; sound = refl }
 
 -- ---- demand 1
@@ -94,7 +94,7 @@ zeroBytes n = replicate n (record { value = 0; small = lit< tt })
 accepted : (due (onArea (put 0)) one ≡ 0) × (due (onArea (hop 0)) one ≡ 0) ×
     (due (onArea (save (zeroBytes 116))) one ≡ 0)
 unfolding powerOn bytesFrom deviceOf recordOf zeros soundDevice soundRecord parts join all framesOf linkOf soundSlot
-    soundLink loopOf areaOf shaped sound judgeOf
+    soundLink loopOf areaOf shapedWith sound judgeWith
 accepted = (refl, refl, refl)
 
 -- numbers below 256 as bytes
@@ -129,7 +129,7 @@ refuser-shut-out =
 
 pub lowest-given : LowestGiven
 unfolding powerOn bytesFrom deviceOf recordOf zeros soundDevice soundRecord parts join all framesOf linkOf soundSlot
-    soundLink loopOf areaOf shaped sound judgeOf callOf hopIn
+    soundLink loopOf areaOf shapedWith sound judgeWith callWith hopIn
 lowest-given = record { five = refl; six = refl; given = refl }
 
 pub ten-first : TenFirst
@@ -171,7 +171,7 @@ works = refl
 -- AAD can hop, and where nothing is under way nothing can
 who : (highestOf one (countIn one) ≡ some 0) × (highestOf still (countIn still) ≡ none)
 unfolding powerOn bytesFrom deviceOf recordOf zeros soundDevice soundRecord parts join all framesOf linkOf soundSlot
-    soundLink loopOf areaOf shaped sound judgeOf
+    soundLink loopOf areaOf shapedWith sound judgeWith
 who = (refl, refl)
 
 module _ (model : Call → List ℕ → After Answer) (o : Obeys model) where

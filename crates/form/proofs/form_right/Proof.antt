@@ -1,8 +1,11 @@
--- A save too short for a count has none; else the three tests of its count and its length, and then the heads.
-use mathlib.Core.Path.{refl, _∙_}
+-- A save too short for a count has none; else the tests of its count and of its length, and then the heads.
+use mathlib.Core.Path.{_≡_, refl, sym, _∙_}
+use mathlib.Core.Bool.{true}
 use native.Mathlib.Omega.{arith}
-use Rattle.area.specs.Sizes.{mostDevices}
-use Rattle.saved.proofs.Tests.{form-short, form-none, form-many, form-long, form-heads}
+use borrow.Author.Tests.{not-true, not-false}
+use Rattle.area.specs.Sizes.{mostDevices, isCount}
+use Rattle.saved.specs.Saved.{savedCount}
+use Rattle.saved.proofs.Tests.{form-short, form-count, form-long, form-heads}
 use borrow.Author.Needs.{needs}
 use Rattle.form.proofs.form_right.Statement.{statement}
 use Rattle.form.proofs.form_right.Tie as tie
@@ -14,19 +17,31 @@ cast-n : tie.Need-cast-n
 cast-n c = omega (arith, c .shared-slice-known2 .given 6)
 
 returns-2 : tie.Need-returns-2
-returns-2 c = form-none mostDevices _ (omega arith)
+returns-2 c =
+    let k = c .before in
+    form-count mostDevices _ (sym (k .is-count .ensures) ∙ not-true (k .is-count .result) (c .if2 .taken))
+
+saved-size-requires : tie.Need-saved-size-requires
+saved-size-requires c κs = omega (arith, c .before .before .shared-slice-known2 .given 6)
 
 returns-3 : tie.Need-returns-3
-returns-3 c = form-many mostDevices _ (omega arith)
-
-returns-4 : tie.Need-returns-4
-returns-4 c = form-long mostDevices _ (λ e. omega (arith, e, c .if4 .taken, c .before .saved-size .ensures))
+returns-3 c = form-long mostDevices _ (λ e. omega (arith, e, c .if3 .taken, c .before .saved-size .ensures))
 
 heads-right-requires : tie.Need-heads-right-requires
-heads-right-requires c κs = record { count = refl; few = omega arith; long = omega arith }
+heads-right-requires c κs =
+    record {
+      count = refl;
+      small = omega (arith, c .before .before .before .before .shared-slice-known2 .given 6);
+      long = omega arith;
+    }
 
-returns-5 : tie.Need-returns-5
-returns-5 c = c .heads-right .ensures ∙ form-heads mostDevices _ (omega arith) (omega arith) (omega arith)
+returns-4 : tie.Need-returns-4
+returns-4 c =
+    let t = c .before .before .before in
+    let k = t .before in
+    c .heads-right .ensures
+    ∙ form-heads mostDevices _ (sym (k .is-count .ensures) ∙ not-false (k .is-count .result) (t .if2 .left))
+    (omega arith)
 
 pub form-right-spec : {M : Type 1} → statement M
 form-right-spec =
@@ -35,9 +50,9 @@ form-right-spec =
     returns
     (λ c. search needs)
     cast-n
-    returns-2
-    returns-3
     (λ c κs. search needs)
-    returns-4
+    returns-2
+    saved-size-requires
+    returns-3
     heads-right-requires
-    returns-5)
+    returns-4)

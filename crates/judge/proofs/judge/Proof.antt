@@ -1,14 +1,14 @@
 -- The two tests, in the order of their numbers.
 use mathlib.Core.Path.{sym, _∙_}
 use borrow.Author.Tests.{not-true, not-false}
-use Rattle.area.specs.Loop.{judgeOf}
+use Rattle.area.specs.Loop.{judgeWith}
 use Rattle.area.proofs.Areas.{is-shaped}
 use borrow.Author.Needs.{needs}
 use Rattle.judge.proofs.judge.Statement.{statement}
 use Rattle.judge.proofs.judge.Tie as tie
 
 returns : tie.Need-returns
-unfolding judgeOf
+unfolding judgeWith
 returns c = let a = c .before in simp (← (a .shape-right .ensures), not-true (a .shape-right .result) (c .if1 .taken))
 
 contents-sound-requires : tie.Need-contents-sound-requires
@@ -16,7 +16,7 @@ contents-sound-requires c κs = let a = c .before in is-shaped _
     (sym (a .shape-right .ensures) ∙ not-false (a .shape-right .result) (c .if1 .left))
 
 returns-2 : tie.Need-returns-2
-unfolding judgeOf
+unfolding judgeWith
 returns-2 c = let b = c .before in let e = b .before in let a = e .before in
     simp (
       ← (a .shape-right .ensures),
@@ -27,7 +27,7 @@ returns-2 c = let b = c .before in let e = b .before in let a = e .before in
     )
 
 returns-3 : tie.Need-returns-3
-unfolding judgeOf
+unfolding judgeWith
 returns-3 c = let b = c .before in let e = b .before in let a = e .before in
     simp (
       ← (a .shape-right .ensures),

@@ -44,7 +44,7 @@ returns-2 c =
 bodies-sound-requires : tie.Need-bodies-sound-requires
 bodies-sound-requires c κs =
     let f = is-formed mostDevices _ (right (c .before .before)) in
-    record { count = refl; few = f .few; long = f .long }
+    record { count = refl; small = omega (arith, f .few); long = f .long }
 
 returns-3 : tie.Need-returns-3
 returns-3 c =
@@ -62,7 +62,7 @@ read-bodies-requires c κs =
     let i = c .before .before .before in
     let z = i .before in
     let f = is-formed mostDevices _ (right (z .before)) in
-    (record { count = refl; few = f .few; long = f .long }, omega (arith, i .if2 .left, z .area-size .ensures))
+    (record { count = refl; small = omega (arith, f .few); long = f .long }, omega (arith, i .if2 .left, z .area-size .ensures))
 
 returns-4 : tie.Need-returns-4
 returns-4 c =

@@ -55,19 +55,23 @@ returns-3 c =
 
 returns-4 : tie.Need-returns-4
 returns-4 c =
-    let g = c .before .before in
+    let k = c .before in
+    let g = k .before .before in
     let i = g .before .before in
     sym
     (groups-right (i .before .before .before .before .before .args .line .now) (word (i .before)) (i .if2 .left)
-    (sym (tested g) ∙ not-false (g .groups-right .result) (c .before .if3 .left)) true (c .if4 .taken))
+    (sym (tested g) ∙ not-false (g .groups-right .result) (k .before .if3 .left)) true
+    (sym (k .is-count .ensures) ∙ c .if4 .taken))
 
 returns-5 : tie.Need-returns-5
 returns-5 c =
-    let g = c .before .before in
+    let k = c .before in
+    let g = k .before .before in
     let i = g .before .before in
     sym
     (groups-right (i .before .before .before .before .before .args .line .now) (word (i .before)) (i .if2 .left)
-    (sym (tested g) ∙ not-false (g .groups-right .result) (c .before .if3 .left)) false (c .if4 .left))
+    (sym (tested g) ∙ not-false (g .groups-right .result) (k .before .if3 .left)) false
+    (sym (k .is-count .ensures) ∙ c .if4 .left))
 
 pub loop-in-spec : {M : Type 1} → statement M
 loop-in-spec =
@@ -85,5 +89,6 @@ loop-in-spec =
     (λ c. search needs)
     groups-right-requires
     returns-3
+    (λ c κs. search needs)
     returns-4
     returns-5)

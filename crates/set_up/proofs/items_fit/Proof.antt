@@ -1,7 +1,11 @@
--- More devices than there can be do not fit; else both are the same tests.
+-- A number of devices that no loop has does not fit; of another both are the same tests.
+use mathlib.Core.Path.{_≡_, sym, _∙_}
+use mathlib.Core.Bool.{true}
+use Prim.Native.Nat.{_≤_}
 use native.Mathlib.Omega.{arith}
-use borrow.Author.Tests.{le-leb, lt-leb}
-use Rattle.area.specs.Sizes.{mostDevices}
+use borrow.Author.Tests.{not-true, not-false}
+use Rattle.area.specs.Sizes.{mostDevices, isCount}
+use Rattle.area.proofs.Areas.{few-counted}
 use Rattle.calls.specs.SetUp.{itemsFit}
 use borrow.Author.Needs.{needs}
 use Rattle.set_up.proofs.items_fit.Statement.{statement}
@@ -9,19 +13,31 @@ use Rattle.set_up.proofs.items_fit.Tie as tie
 
 returns : tie.Need-returns
 unfolding itemsFit
-returns c =
-    let s = c .before .before .before in
-    rw (le-leb 1 (s .args .n) (omega arith), lt-leb (s .args .n) mostDevices (c .if1 .taken))
+returns c = let k = c .before in simp (← (k .is-count .ensures), not-true (k .is-count .result) (c .if1 .taken))
+
+-- past the first test a loop can have so many
+counted : (c : tie.Else1) → isCount mostDevices (c .before .before .before .before .args .n) ≡ true
+counted c = sym (c .before .is-count .ensures) ∙ not-false (c .before .is-count .result) (c .if1 .left)
+
+few : (c : tie.Else1) → c .before .before .before .before .args .n ≤ mostDevices
+few c = few-counted mostDevices (c .before .before .before .before .args .n) (counted c)
+
+area-size-requires : tie.Need-area-size-requires
+area-size-requires c κs = omega (arith, few c)
+
+mul-result : tie.Need-mul-result
+mul-result c = omega (arith, few (c .before))
 
 returns-2 : tie.Need-returns-2
 unfolding itemsFit
-returns-2 c = rw (c .area-size .ensures)
+returns-2 c = rw (counted (c .before), c .area-size .ensures)
 
 pub items-fit-spec : {M : Type 1} → statement M
 items-fit-spec =
     tie.close
     (tie.spec
-    returns
     (λ c κs. search needs)
-    (λ c. search needs)
+    returns
+    area-size-requires
+    mul-result
     returns-2)

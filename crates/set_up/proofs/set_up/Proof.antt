@@ -2,6 +2,7 @@
 use mathlib.Core.Path.{refl, sym, _∙_}
 use native.Mathlib.Omega.{arith}
 use borrow.Author.Tests.{not-true, not-false}
+use Rattle.area.specs.Sizes.{mostDevices}
 use Rattle.calls.proofs.Powered.{items-fit, set-shape, set-unsound, set-done}
 use borrow.Author.Needs.{needs}
 use Rattle.set_up.proofs.set_up.Statement.{statement}
@@ -22,7 +23,7 @@ items-allowed-requires c κs =
     let s = n .before .before .before in
     omega (
       arith,
-      items-fit (n .devices-for .result) (s .args .area .now) (s .args .items .now)
+      items-fit mostDevices (n .devices-for .result) (s .args .area .now) (s .args .items .now)
           (sym (f .items-fit .ensures) ∙ not-false _ (c .if1 .left)),
     )
 
@@ -46,7 +47,7 @@ power-on-requires c κs =
     let n = f .before .before in
     let s = n .before .before .before in
     record {
-      fit = items-fit (n .devices-for .result) (s .args .area .now) (s .args .items .now)
+      fit = items-fit mostDevices (n .devices-for .result) (s .args .area .now) (s .args .items .now)
           (sym (f .items-fit .ensures) ∙ not-false _ (i .if1 .left));
       each = sym (b .items-allowed .ensures) ∙ not-false _
           (k .if2 .left);

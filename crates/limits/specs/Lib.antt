@@ -1,0 +1,2 @@
+-- The limit on the devices of a loop.
+pub mod Limits
