@@ -1,13 +1,15 @@
 -- The drain, turn by turn: which device is found, what its hop does, and what the whole drain then is.
 use mathlib.Core.Path.{_≡_, refl, sym, ap, _∙_}
-use mathlib.Core.List.{List}
-use mathlib.Core.Bool.{true, false}
+use mathlib.Core.List.{List, [], tail}
+use mathlib.Core.Bool.{Bool, true, false, cond}
 use Prim.Native.Nat.{ℕ, zero, suc, _+_, _-_, _≤_, _<_}
 use native.Mathlib.Omega.{arith}
 use native.Mathlib.Numerals.{add-one}
 use native.Mathlib.Nat.{not-suc-le-zero, sub-zero}
-use lib.ListN.{length}
-use borrow.Author.Tests.{lt-ltb, eq-eqb, ne-eqb}
+use lib.Dec.{eqb, ltb}
+use lib.Seq.{getD-set-other}
+use lib.ListN.{length, set}
+use borrow.Author.Tests.{lt-ltb, eqb-true, eqb-false, eq-eqb, ne-eqb}
 use Rattle.record.specs.Fits.{Bytes}
 use Rattle.area.specs.Loop.{Loop, loopOf, areaOf, judgeOf, size, link, Sound-loop, Holds}
 use Rattle.area.specs.Lookup.{oldestOf, roomOf}
@@ -17,7 +19,7 @@ use Rattle.area.specs.declared.Place.{Place}
 use Rattle.area.proofs.Areas.{area-holds, loop-good, holds-of}
 use Rattle.order.specs.Owed.{owed}
 use Rattle.calls.specs.Outcome.{Outcome, refuse, done, afterOf, Is, loopAfter}
-use Rattle.calls.specs.Calls.{ofOldest, intoRoom, noHop, passes, passesOn, hopIn}
+use Rattle.calls.specs.Calls.{atPlace, ofOldest, intoRoom, noHop, passes, passesOn, hopFrom, hopIn}
 use Rattle.calls.specs.Drain.{noHopLeft, budgetSpent, byteHanded, noDrain, hasRoom, canFrom, canHop, highest}
 use Rattle.calls.specs.Drain.{stopped, handedTo, turned, drainFrom, drainIn}
 use Rattle.calls.specs.declared.HopAnswer.{HopAnswer}
@@ -69,6 +71,62 @@ can-done i l h t = rw (lt-ltb _ _ h) (go (oldestOf (link l i)) t)
     go : (o : Oldest) → canFrom i l o ≡ true → IsDone (ofOldest (passesOn i l) o)
     go Oldest.Empty c = let z : _≡_ {A = ℕ} 0 1 = cc in omega arith
     go (Oldest.Frame f) c = room f (roomOf (link l (suc i))) c
+
+-- ---- who cannot
+
+pub highest-past : (n k : ℕ) (l : Loop) → k ≤ n → ((j : ℕ) → k ≤ j → j < n → canHop j l ≡ false) →
+    highest n l ≡ highest k l
+unfolding highest
+highest-past zero k l h none = let e : k ≡ 0 = omega arith in rw e
+highest-past (suc n) k l h none =
+    go (eqb k (suc n)) refl (λ le. highest-past n k l le (λ j p q. none j p (omega arith)))
+  where
+    go : (t : Bool) → eqb k (suc n) ≡ t → (k ≤ n → highest n l ≡ highest k l) → highest (suc n) l ≡ highest k l
+    go true e rest = rw (eqb-true k (suc n) e)
+    go false e rest =
+        let le : k ≤ n = omega (arith, h, eqb-false k (suc n) e) in rw (none n le (omega arith)) (rest le)
+
+none-past : (n i : ℕ) (l : Loop) → highest n l ≡ Place.At i → (j : ℕ) → i < j → j < n → canHop j l ≡ false
+unfolding highest
+none-past zero i l e j p q = absurd (not-suc-le-zero q)
+none-past (suc n) i l e j p q = go (canHop n l) refl e (λ s k. none-past n i l s j p k)
+  where
+    last : (t : Bool) → eqb j n ≡ t → canHop n l ≡ false → (j < n → canHop j l ≡ false) → canHop j l ≡ false
+    last true d f rest = rw (eqb-true j n d) f
+    last false d f rest = rest (omega (arith, eqb-false j n d, q))
+
+    go : (t : Bool) → canHop n l ≡ t → cond t (Place.At n) (highest n l) ≡ Place.At i →
+        (highest n l ≡ Place.At i → j < n → canHop j l ≡ false) → canHop j l ≡ false
+    go true f s rest = let z : n ≡ i = cc in absurd (omega arith)
+    go false f s rest = last (eqb j n) refl f (rest s)
+
+-- a hop of device i leaves the links past the next
+links-past : (i k : ℕ) (l : Loop) → suc i < k → link (loopAfter l (hopIn i l)) k ≡ link l k
+unfolding hopIn
+links-past i k l h = go (ltb i (size l))
+  where
+    sent : (f : ℕ) (r : Room) → link (loopAfter l (intoRoom (passes i f l) r)) k ≡ link l k
+    sent f Room.Full = refl
+    sent f (Room.Behind n) =
+        getD-set-other (set (l .links) i (tail (link l i))) (suc i) k _ [] (λ e. omega arith)
+        ∙ getD-set-other (l .links) i k (tail (link l i)) [] (λ e. omega arith)
+
+    took : (o : Oldest) → link (loopAfter l (ofOldest (passesOn i l) o)) k ≡ link l k
+    took Oldest.Empty = refl
+    took (Oldest.Frame f) = sent f (roomOf (link l (suc i)))
+
+    go : (t : Bool) → link (loopAfter l (atPlace (hopFrom l) (cond t (Place.At i) Place.NoDevice))) k ≡ link l k
+    go true = took (oldestOf (link l i))
+    go false = refl
+
+-- so whether a device past the next can hop
+can-past : (i j : ℕ) (l : Loop) → suc i < j → canHop j (loopAfter l (hopIn i l)) ≡ canHop j l
+unfolding canHop
+can-past i j l h = rw (links-past i j l h) (go (oldestOf (link l j)))
+  where
+    go : (o : Oldest) → canFrom j (loopAfter l (hopIn i l)) o ≡ canFrom j l o
+    go Oldest.Empty = refl
+    go (Oldest.Frame f) = rw (links-past i (suc j) l (omega arith))
 
 -- ---- the drain
 
@@ -196,3 +254,10 @@ module _ (a₀ a : List ℕ) (b n h : ℕ) (t : Turn a₀ a b n h) where
           rest = rw (f, d)
               (turn ∙ turned-on a i h (drainFrom (b - h - 1) (h + 1)) l r (hopIn i l) did (is .0) e);
         }
+
+    -- and no device past the next can hop
+    pub next-top : (top : ℕ) → top ≡ n - (n - (i + 2)) → highest n (loopOf x) ≡ highest top (loopOf x)
+    next-top top e =
+        rw (left .held)
+        (highest-past n top m (omega arith)
+        (λ j p q. can-past i j l (omega arith) ∙ none-past n i l found j (omega arith) q))

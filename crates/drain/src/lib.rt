@@ -8,6 +8,8 @@ use calls::DrainAnswer;
 use hop::hop_at;
 use judge::judge;
 ghost use mathlib.Core.Path.{_≡_};
+ghost use Prim.Native.Nat.{_+_, _-_, _≤_, _<_};
+ghost use Rattle.area.specs.Sizes.{mostDevices};
 ghost use Rattle.area.specs.Loop.{judgeOf, loopOf, HasDevice};
 ghost use Rattle.calls.specs.Outcome.{Is, afterOf};
 ghost use Rattle.calls.specs.Drain.{noDrain, canHop, drainIn, drainOf};
@@ -46,19 +48,32 @@ fn can_hop(area: &[u8], i: usize) -> bool
     true
 }
 
-// The drain of an area without a refusal.
+// The first device number past all that a hop of device i can have set free: its own, the one before and the one behind.
+fn past(i: usize, n: usize) -> usize
+    requires { ⌜ (i < n) × (n ≤ mostDevices) ⌝ }
+    ensures { λ r. ⌜ r ≡ n - (n - (i + 2)) ⌝ }
+{
+    let next = i + 2;
+    if next < n {
+        return next;
+    }
+    n
+}
+
+// The drain of an area without a refusal. No device from `top` on can hop.
 fn drain_in(area: &mut [u8], budget: u64) -> DrainAnswer
     requires { ⌜ judgeOf (now area) ≡ 0 ⌝ }
     ensures { λ r. ⌜ Is (afterOf noDrain (now (area .entry)) (drainIn budget (loopOf (now (area .entry))))) r
         (now (area .exit)) ⌝ }
 {
     let n = devices_in(area);
+    let mut top = n;
     let mut hops: u32 = 0;
     let mut device: u8 = 0;
     let mut byte: u8 = 0;
     let mut end: u8 = 0;
     let reason: u8 = 'turns: loop {
-        let mut i = n;
+        let mut i = top;
         'search: loop {
             if i == 0 {
                 break 'turns NO_HOP_LEFT;
@@ -79,6 +94,7 @@ fn drain_in(area: &mut [u8], budget: u64) -> DrainAnswer
             end = answer.end;
             break 'turns BYTE_HANDED;
         }
+        top = past(i, n);
     };
     DrainAnswer {
         hops,

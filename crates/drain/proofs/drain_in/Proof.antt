@@ -9,24 +9,25 @@ use Rattle.area.specs.declared.Place.{Place}
 use Rattle.area.proofs.Areas.{loop-good}
 use Rattle.calls.specs.Drain.{canHop, highest}
 use Rattle.calls.proofs.Owing.{owed-few}
-use Rattle.calls.proofs.Turns.{Turn, first-turn, none-left, none-more, handed-over, next-turn, highest-found}
+use Rattle.calls.proofs.Turns.{Turn, first-turn, none-left, none-more, handed-over, next-turn, next-top, highest-found}
 use Rattle.calls.proofs.Turns.{highest-next, highest-none}
 use borrow.Author.Needs.{needs}
 use Rattle.drain.proofs.drain_in.Statement.{statement}
 use Rattle.drain.proofs.drain_in.Tie as tie
 
 abbrev Inv-search : tie.InvT-search
-Inv-search area budget n hops device byte end i₀ i = (i ≤ n) × (highest n (loopOf area) ≡ highest i (loopOf area))
+Inv-search area budget n top hops device byte end i₀ i = (i ≤ n) × (highest n (loopOf area) ≡ highest i (loopOf area))
 
 abbrev μ-search : tie.MeasureT-search
-μ-search area budget n hops device byte end i₀ i = i
+μ-search area budget n top hops device byte end i₀ i = i
 
 abbrev Inv-turns : tie.InvT-turns
-Inv-turns area₀ budget n hops₀ device₀ byte₀ end₀ area hops device byte end = Turn area₀ area budget n hops ×
+Inv-turns area₀ budget n top₀ hops₀ device₀ byte₀ end₀ area top hops device byte end =
+    Turn area₀ area budget n hops × ((top ≤ n) × (highest n (loopOf area) ≡ highest top (loopOf area))) ×
     (device ≡ 0) × (byte ≡ 0) × (end ≡ 0)
 
 abbrev μ-turns : tie.MeasureT-turns
-μ-turns area₀ budget n hops₀ device₀ byte₀ end₀ area hops device byte end = budget - hops
+μ-turns area₀ budget n top₀ hops₀ device₀ byte₀ end₀ area top hops device byte end = budget - hops
 
 -- the device found is the highest that can hop
 found : (c : tie.Then2 Inv-search μ-search Inv-turns μ-turns) →
@@ -53,13 +54,14 @@ turns-holds c =
     let s = z .before in (
       first-turn (s .args .area .now) (s .args .budget) _ (λ i. z .slice-known .given i .fits) (s .pre)
           (c .devices-in .ensures .0),
+      (omega arith, refl),
       refl,
       refl,
       refl,
     )
 
 search-holds : tie.Need-search-holds Inv-search μ-search Inv-turns μ-turns
-search-holds c = (omega arith, refl)
+search-holds c = c .turns .inv .1
 
 can-hop-requires : tie.Need-can-hop-requires Inv-search μ-search Inv-turns μ-turns
 can-hop-requires c κs =
@@ -105,15 +107,22 @@ cast-device c =
     let n = u .before .before .before .before .before .before in
     omega (arith, found u .1, n .devices-in .ensures)
 
+past-requires : tie.Need-past-requires Inv-search μ-search Inv-turns μ-turns
+past-requires c κs =
+    let u = c .before .before .before .before .before .before .before in
+    let n = u .before .before .before .before .before .before in
+    omega (arith, found u .1, n .devices-in .ensures)
+
 turns-less : tie.Need-turns-less Inv-search μ-search Inv-turns μ-turns
 turns-less c =
-    let m = c .before .before .before .before .before .before in
+    let m = c .before .before .before .before .before .before .before in
     let w = m .before .before .before .before .before .before in
     omega (arith, w .turns .inv .0 .within, m .if3 .left)
 
 turns-again : tie.Need-turns-again Inv-search μ-search Inv-turns μ-turns
 turns-again c =
-    let h = c .before .before .before .before in
+    let k = c .before in
+    let h = k .before .before .before .before in
     let m = h .before .before in
     let u = m .before in
     let r = u .before .before .before .before in
@@ -122,10 +131,15 @@ turns-again c =
     let p = h .hop-at in
     let f = found u in (
       next-turn _ (t .area) _ _ (t .hops) (t .inv .0) (r .search .i - 1) (f .0) (f .1) (f .2) (m .if3 .left)
-          (p .result) _ (p .ensures) (c .if4 .left) (p .kept .0),
-      t .inv .1,
+          (p .result) _ (p .ensures) (k .if4 .left) (p .kept .0),
+      (
+        omega (arith, c .past .ensures),
+        next-top _ (t .area) _ _ (t .hops) (t .inv .0) (r .search .i - 1) (f .0) (f .1) (f .2) (m .if3 .left)
+            (p .result) _ (p .ensures) _ (c .past .ensures),
+      ),
       t .inv .2,
       t .inv .3,
+      t .inv .4,
     )
 
 same-length : tie.Need-same-length Inv-search μ-search Inv-turns μ-turns
@@ -133,7 +147,7 @@ same-length c = c .before .before .turns .inv .0 .long
 
 returns : tie.Need-returns Inv-search μ-search Inv-turns μ-turns
 returns c = let t = c .before .before .turns in
-    none-left _ (t .area) _ _ (t .hops) (t .inv .0) (t .device) (t .byte) (t .end) (t .inv .1, t .inv .2, t .inv .3)
+    none-left _ (t .area) _ _ (t .hops) (t .inv .0) (t .device) (t .byte) (t .end) (t .inv .2, t .inv .3, t .inv .4)
     (c .before .search .inv .1 ∙ rw (c .if1 .taken) (highest-none (loopOf (t .area))))
 
 same-length-2 : tie.Need-same-length-2 Inv-search μ-search Inv-turns μ-turns
@@ -146,7 +160,7 @@ returns-2 c =
     let u = c .before in
     let w = u .before .before .before .before .before in
     let t = w .turns in
-    none-more _ (t .area) _ _ (t .hops) (t .inv .0) (t .device) (t .byte) (t .end) (t .inv .1, t .inv .2, t .inv .3)
+    none-more _ (t .area) _ _ (t .hops) (t .inv .0) (t .device) (t .byte) (t .end) (t .inv .2, t .inv .3, t .inv .4)
     _ (found u .0) (c .if3 .taken)
 
 same-length-3 : tie.Need-same-length-3 Inv-search μ-search Inv-turns μ-turns
@@ -187,6 +201,7 @@ drain-in-spec =
     hop-at-requires
     add-hops
     cast-device
+    past-requires
     turns-less
     turns-again
     same-length
