@@ -17,7 +17,7 @@ void chance_bytes(uint8_t *bytes, size_t length);
 uint64_t wild_number(uint64_t good);
 /* What a damaged byte becomes: near the good one, at a limit of some field, or any. */
 uint8_t damaged_value(uint8_t good);
-/* A number of devices: mostly few, sometimes the most. */
+/* A number of devices: mostly few, sometimes any or the most. */
 unsigned chance_devices(void);
 /* Items for n devices, all allowed. */
 void chance_items(uint8_t *items, unsigned n);

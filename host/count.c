@@ -1,5 +1,5 @@
 /* One piece of work of libpil or of the model on a loop, or none, for counting the instructions that it takes. Use:
-   count devices, count names, or count CASE WHO: the case's line among the names; 0 for neither, 1 libpil, 2 the model. */
+   count devices, count names, or count CASE WHO: the case's line among the names; 0 for neither, 1 libpil, 2 model. */
 #include "both.h"
 #include "loops.h"
 

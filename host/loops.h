@@ -26,8 +26,8 @@ void fill_link(uint8_t *area, unsigned link, unsigned frames, unsigned first, un
 
 /* A record with every ability, configured at the address, ID and data of full length and half sent; no listener. */
 void full_record(uint8_t *record, unsigned address, unsigned talker);
-/* Full records, the talker states in turn so that the last device is sending data, service mixed; every link holds four data bytes, and each byte that
-   comes to a sending device is its own, undamaged. */
+/* Full records, the talker states in turn so that the last device is sending data, service mixed; every link holds
+   four data bytes, and each byte that comes to a sending device is its own, undamaged. */
 void busy_loop(uint8_t *area);
 /* The same with one place free in the tail: from the highest device down, each can hop once. */
 void busy_loop_to_hop(uint8_t *area);

@@ -852,7 +852,7 @@ static int read_save(struct reading *r)
 
     if (!read_body(r, PIL_SAVED_HEADER, PIL_HEADER_LENGTH))
         return 0;
-    if (*devices < 1 || *devices > (MODEL_FAULT == 22 ? 15 : PIL_MOST_DEVICES + (MODEL_FAULT == 19)))
+    if (*devices < 1 || *devices > (MODEL_FAULT == 22 ? PIL_MOST_DEVICES / 2 : PIL_MOST_DEVICES + (MODEL_FAULT == 19)))
         return 0;
     for (unsigned i = 0; i < *devices; i++)
         if (!read_body(r, PIL_SAVED_RECORD, PIL_RECORD_LENGTH))

@@ -14,8 +14,8 @@ enum {
     MOST_PUTS = 80,
     MOST_FRAMES = PIL_LINK_DEPTH * (PIL_MOST_DEVICES + 1) + MOST_PUTS, /* in the links at first, and put */
     MOST_LOCALS = 120,
-    LEAST = 100 /* how many histories must begin from an opening and be of as many devices as there can be, and how
-                   often one must hold a save and its opening */
+    LEAST = 100, /* how many histories must begin from an opening, and how often one must hold a save and its opening */
+    LEAST_LONGEST = 50 /* how many must have as many devices as there can be */
 };
 
 enum which { LOAD, STATUS, WISH };
@@ -340,8 +340,8 @@ int order_histories(uint64_t seed, uint64_t histories)
             handed += mixed.handeds[device];
     }
     printf("order: %" PRIu64 " histories equal to their right-round ones, %" PRIu64 " of them from an opening with %"
-           PRIu64 " frames in the links, %" PRIu64 " of %d devices; %" PRIu64 " frames put, %" PRIu64 " times saved and opened, %" PRIu64
-           " accepted local calls, %" PRIu64 " hops, %" PRIu64 " bytes handed\n",
+           PRIu64 " frames in the links, %" PRIu64 " of %d devices; %" PRIu64 " frames put, %" PRIu64
+           " times saved and opened, %" PRIu64 " accepted local calls, %" PRIu64 " hops, %" PRIu64 " bytes handed\n",
            histories, opened, at_first, longest, PIL_MOST_DEVICES, puts, reopened, locals, hops, handed);
-    return opened >= LEAST && at_first >= LEAST && longest >= LEAST && reopened >= LEAST;
+    return opened >= LEAST && at_first >= LEAST && longest >= LEAST_LONGEST && reopened >= LEAST;
 }

@@ -141,18 +141,19 @@ static void owed_cases(void)
 {
     static uint8_t loop[PIL_AREA_LENGTH(PIL_MOST_DEVICES)];
     static const uint8_t items[PIL_ITEMS_LENGTH(PIL_MOST_DEVICES)];
+    const unsigned most = 2 * PIL_MOST_DEVICES * (PIL_MOST_DEVICES + 1);
 
-    check("set-up of thirty-one", pil_set_up(loop, sizeof loop, items, sizeof items), PIL_ACCEPTED);
+    check("set-up of the most devices", pil_set_up(loop, sizeof loop, items, sizeof items), PIL_ACCEPTED);
     owes("owed, fresh", loop, sizeof loop, PIL_ACCEPTED, 0);
     check("put", pil_put(loop, sizeof loop, 0), PIL_ACCEPTED);
-    owes("owed, a put", loop, sizeof loop, PIL_ACCEPTED, 31);
+    owes("owed, a put", loop, sizeof loop, PIL_ACCEPTED, PIL_MOST_DEVICES);
     check("hop", pil_hop(loop, sizeof loop, 0).refusal, PIL_ACCEPTED);
-    owes("owed, a hop", loop, sizeof loop, PIL_ACCEPTED, 30);
+    owes("owed, a hop", loop, sizeof loop, PIL_ACCEPTED, PIL_MOST_DEVICES - 1);
     while (pil_put(loop, sizeof loop, 0) == PIL_ACCEPTED)
-        pil_drain(loop, sizeof loop, 1984);
-    owes("owed, all links full", loop, sizeof loop, PIL_ACCEPTED, 1984);
+        pil_drain(loop, sizeof loop, most);
+    owes("owed, all links full", loop, sizeof loop, PIL_ACCEPTED, most);
     check("take", pil_take(loop, sizeof loop).refusal, PIL_ACCEPTED);
-    owes("owed, a take", loop, sizeof loop, PIL_ACCEPTED, 1984);
+    owes("owed, a take", loop, sizeof loop, PIL_ACCEPTED, most);
     fresh();
     owes("owed, a wrong length", area, sizeof area - 1, PIL_SHAPE, 0);
     record[PIL_RECORD_ZERO] = 1;

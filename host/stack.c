@@ -199,8 +199,8 @@ static void try_case(unsigned number, unsigned frame)
 
 static void print_deepest(void)
 {
-    printf("Bytes of stack from the call on, return address included, in loops of %d devices; the first frame and talker\n"
-           "state with so many.\n%-20s%8s%24s\n", LOOP_DEVICES, "", "libpil", "model");
+    printf("Bytes of stack from the call on, return address included, in loops of %d devices; the first frame and\n"
+           "talker state with so many.\n%-20s%8s%24s\n", LOOP_DEVICES, "", "libpil", "model");
     for (unsigned which = 0; which < CALLS; which++) {
         printf("%-20s", calls[which].name);
         for (int side = PIL; side <= MODEL; side++)

@@ -24,7 +24,8 @@ use Rattle.area.specs.Sizes.{headerSize, linkSize, mostDevices, isCount,
 use Rattle.area.specs.Parts.{part, join, all}
 use Rattle.area.specs.Link.{framesOf, linkOf, soundLink, Frames}
 use Rattle.area.specs.Loop.{Loop, size, countIn, recordsIn, linksIn, loopOf, headerOf, areaOf, shape, unsound}
-use Rattle.area.specs.Loop.{shaped, shapedWith, Shaped, sound, judgeOf, judgeWith, device, link, Sound-loop, Holds}
+use Rattle.area.specs.Loop.{shaped, shapedWith, Shaped, sound, judgeOf, judgeWith, device, link, Sound-loop}
+use Rattle.area.specs.Loop.{Holds}
 use Rattle.area.specs.Lookup.{setDevice, setLink}
 use Rattle.area.proofs.Parts.{splice, map-back, length-parts, getD-parts, join-parts, length-join, splice-join}
 use Rattle.area.proofs.Parts.{part-join, parts-join, splice-past, part-past}

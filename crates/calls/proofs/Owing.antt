@@ -38,6 +38,6 @@ hop-pays i l s = go (hopIn i l) (hopFlat (lined l) i) refl
 pub loop-owes : (l : Loop) → Sound-loop l → owed (l .links) ≤ 2 * (size l * (size l + 1))
 loop-owes l s = omega (arith, order.owed-at-most ℕ depth (size l) (l .links) (s .ends) (λ j. s .frames j .few))
 
--- and with at most fifteen devices
+-- and with at most as many devices as a loop can have
 pub owed-few : (l : Loop) → Sound-loop l → owed (l .links) ≤ 2 * (mostDevices * (mostDevices + 1))
 owed-few l s = omega (arith, loop-owes l s, mul-le-mul-right (size l + 1) (s .few), s .few)

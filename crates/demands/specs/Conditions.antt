@@ -36,9 +36,8 @@ badOutput (drain b) a = false
 badOutput owes a = false
 badOutput (save out) a = not (eqb (length (numbers out)) (savedSize (countIn a)))
 
--- 1, Shape: the area's length isn't one of 1 to mostDevices devices, or not that of byte 0, or a save's output is wrong;
--- at set up the items' length isn't 12n for the n of the area's length;
--- at an opening the area's length isn't that of the number of devices in the save
+-- 1, Shape: the area's length isn't one of a loop, or not that of byte 0, or a save's output is wrong; at set up the
+-- items' length isn't 12n for the n of the area's length, at an opening the area's length isn't that of the saved loop
 abbrev pub Shape : Call → List ℕ → Bool
 Shape (onArea c) a =
     badOutput c a || (eqb (devicesAt (length a)) 0 || not (eqb (length a) (areaSize (countIn a))))

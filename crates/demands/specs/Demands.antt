@@ -1,6 +1,6 @@
 -- The three demands on the model, and what 02 asks of the hops owed (k), of saved loops (a) and of the limit on devices
 -- (j), over the very definitions that the contracts of the exported functions cite.
--- It leans on Calls, Conditions, Drains, Histories (the crate teeth says what it shuts out); frame's Messages,
+-- It leans on Calls, Conditions, Drains, Histories, Limits (the crate teeth says what it shuts out); frame's Messages,
 -- Decoding, Coding, Laws; coding's Coding; device's Sent, and Take with the rules that it names; record_local's Local;
 -- record's Record, Parts, Sound, Fits; area's Sizes, Parts, Link, Loop, Lookup; calls' Outcome, Calls, Drain, SetUp,
 -- Owed; saved's Saved, Calls, Laws; limits' Limits; order's Line, Flat, History, RightRound, Through, Owed, which have
@@ -33,6 +33,7 @@ use Rattle.demands.specs.Calls.{Byte, numbers, put, hop, take, drain, ow
 use Rattle.demands.specs.Calls.{decode, encode, Answer, plain, hopped, taken, owing, saving, decoded, encoded}
 use Rattle.demands.specs.Calls.{pil, refusalIn, bare}
 use Rattle.demands.specs.Conditions.{devicesAt, due}
+use Rattle.demands.specs.Limits.{pilWith, FewFor}
 use Rattle.demands.specs.Drains.{byHops}
 use Rattle.demands.specs.Histories.{Step, away, stepped, areaLeft, framesPut, framesTaken, bytesHanded}
 use Rattle.demands.specs.Histories.{hopsBy, hopsMade, stepsRefused, Local, calledBy, localCall, turnsOf}
@@ -290,9 +291,12 @@ abbrev pub formerMost : ℕ
 formerMost = 15
 
 pub record ThirtyOne : Type 1 where
-  -- The longest area, here of devices that can do nothing, has no refusal, and 2,312 bytes.
+  -- An area of 31 devices, here of ones that can do nothing, has no refusal, and 2,312 bytes; none is longer.
   pub longest : (judgeOf (areaOf (blankOf mostDevices)) ≡ 0) × (length (areaOf (blankOf mostDevices)) ≡ 2312)
-  -- What has at most fifteen devices is judged, used, set up, saved and opened as by the limit before,
+  pub none-longer : (a : List ℕ) → judgeOf a ≡ 0 → length a ≤ 2312
+  -- What has at most fifteen devices is judged, set up, saved and opened as by the limit before,
   pub as-before : Agree formerMost mostDevices
-  -- and a reader by that limit refuses what has more with 10, and the area that it was lent stays as it was.
+  -- so that every call with it answers and leaves what it did.
+  pub called-as-before : (c : Call) (a : List ℕ) → FewFor formerMost c a → pilWith formerMost c a ≡ pil c a
+  -- A reader by that limit refuses what has more with 10, and the area that it was lent stays as it was.
   pub refused-before : RefusesMore formerMost

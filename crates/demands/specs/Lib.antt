@@ -1,6 +1,8 @@
--- The three demands, the hops owed and saved loops: Demands is the page to read, and the others are what it speaks of.
+-- The three demands, the hops owed, saved loops and the limit: Demands is the page to read, and the others are what it
+-- speaks of.
 pub mod Calls
 pub mod Conditions
+pub mod Limits
 pub mod Histories
 pub mod Drains
 pub mod Demands

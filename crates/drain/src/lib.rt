@@ -8,8 +8,7 @@ use calls::DrainAnswer;
 use hop::hop_at;
 use judge::judge;
 ghost use mathlib.Core.Path.{_≡_};
-ghost use Prim.Native.Nat.{_+_, _-_, _≤_, _<_};
-ghost use Rattle.area.specs.Sizes.{mostDevices};
+ghost use Prim.Native.Nat.{_+_, _-_, _<_};
 ghost use Rattle.area.specs.Loop.{judgeOf, loopOf, HasDevice};
 ghost use Rattle.calls.specs.Outcome.{Is, afterOf};
 ghost use Rattle.calls.specs.Drain.{noDrain, canHop, drainIn, drainOf};
@@ -48,9 +47,9 @@ fn can_hop(area: &[u8], i: usize) -> bool
     true
 }
 
-// The first device number past all that a hop of device i can have set free: its own, the one before and the one behind.
+// The place past all devices that a hop of device i can have set free: itself, the one before and the one behind.
 fn past(i: usize, n: usize) -> usize
-    requires { ⌜ (i < n) × (n ≤ mostDevices) ⌝ }
+    requires { ⌜ (i < n) × (n < 256) ⌝ }
     ensures { λ r. ⌜ r ≡ n - (n - (i + 2)) ⌝ }
 {
     let next = i + 2;

@@ -1,2 +1,2 @@
--- One law, of a test behind the test of the count, gives them all.
+-- One law, of a test behind the test of the count, says where two limits agree.
 pub mod Limits

@@ -1,10 +1,10 @@
 -- Where what is tested beside the count holds only of few devices, either limit gives the same.
 use Prim.Native.Nat.{ℕ, _*_, _≤_, _<_}
-use mathlib.Core.Path.{_≡_, refl, sym, ap, _∙_}
+use mathlib.Core.Path.{_≡_, refl, sym, _∙_}
 use mathlib.Core.List.{List}
 use mathlib.Core.Bool.{Bool, true, false, _&&_}
 use native.Mathlib.Omega.{arith}
-use lib.Dec.{eqb, leb}
+use lib.Dec.{eqb}
 use lib.ListN.{length}
 use borrow.Author.Tests.{eqb-true, le-leb}
 use Rattle.record.proofs.Both.{left, right, never}
@@ -17,7 +17,7 @@ use Rattle.saved.specs.Saved.{saved, savedSize, savedCount, headed, formed}
 use Rattle.saved.specs.Calls.{badSave, saveWith, openWith}
 use Rattle.saved.proofs.Formed.{count-saved}
 use Rattle.saved.proofs.Tests.{form-many, open-bad}
-use Rattle.limits.specs.Limits.{FewIn, FewItems, FewSaved, Agree, LimitsAgree, MoreRefused}
+use Rattle.limits.specs.Limits.{FewIn, FewItems, FewSaved, LimitsAgree, MoreRefused}
 
 module _ (smaller larger : ℕ) (le : smaller ≤ larger) where
   same-count : (n : ℕ) (t : Bool) → (t ≡ true → n ≤ smaller) → (isCount smaller n && t) ≡ (isCount larger n && t)

@@ -1,4 +1,5 @@
--- The set-up of line 1: refused but for a number of devices that a loop can have, and otherwise the same whatever the area held before.
+-- The set-up of line 1: refused but for a number of devices that a loop can have, and otherwise the same whatever the
+-- area held before.
 use Prim.Native.Nat.{ℕ, _+_, _*_, _≤_, _<_}
 use mathlib.Core.Path.{_≡_, refl, ap, _∙_}
 use mathlib.Core.List.{List, [], _∷_, map}

@@ -1,10 +1,8 @@
 -- A save too short for a count has none; else the tests of its count and of its length, and then the heads.
-use mathlib.Core.Path.{_≡_, refl, sym, _∙_}
-use mathlib.Core.Bool.{true}
+use mathlib.Core.Path.{refl, sym, _∙_}
 use native.Mathlib.Omega.{arith}
 use borrow.Author.Tests.{not-true, not-false}
-use Rattle.area.specs.Sizes.{mostDevices, isCount}
-use Rattle.saved.specs.Saved.{savedCount}
+use Rattle.area.specs.Sizes.{mostDevices}
 use Rattle.saved.proofs.Tests.{form-short, form-count, form-long, form-heads}
 use borrow.Author.Needs.{needs}
 use Rattle.form.proofs.form_right.Statement.{statement}

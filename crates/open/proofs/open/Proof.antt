@@ -61,8 +61,10 @@ read-bodies-requires : tie.Need-read-bodies-requires
 read-bodies-requires c κs =
     let i = c .before .before .before in
     let z = i .before in
-    let f = is-formed mostDevices _ (right (z .before)) in
-    (record { count = refl; small = omega (arith, f .few); long = f .long }, omega (arith, i .if2 .left, z .area-size .ensures))
+    let f = is-formed mostDevices _ (right (z .before)) in (
+      record { count = refl; small = omega (arith, f .few); long = f .long },
+      omega (arith, i .if2 .left, z .area-size .ensures),
+    )
 
 returns-4 : tie.Need-returns-4
 returns-4 c =

@@ -47,7 +47,8 @@ returns-2 c =
     (sym (k .is-count .ensures) ∙ not-true (k .is-count .result) (c .if2 .taken)))
 
 -- a loop can have so many
-few : (c : tie.Else2) → countIn (c .before .before .before .before .before .before .before .args .area .now) ≤ mostDevices
+few : (c : tie.Else2) →
+    countIn (c .before .before .before .before .before .before .before .args .area .now) ≤ mostDevices
 few c =
     few-counted mostDevices (countIn (c .before .before .before .before .before .before .before .args .area .now))
     (sym (c .before .is-count .ensures) ∙ not-false (c .before .is-count .result) (c .if2 .left))
