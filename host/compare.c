@@ -1112,8 +1112,9 @@ static int report(void)
                             "with more or fewer (3)", origins, 0, ORIGINS, LEAST);
     enough &= report_counts("no saves: cut (0), longer (1), another byte in a head (2), out of order (3), another "
                             "count (4), of no or too many devices (5)", spoilings, 0, SPOILINGS, LEAST);
-    enough &= report_counts("histories of no more devices than there could be before 02, j (0), of more (1), of as many "
-                            "as there can be (2), openings of more than before accepted (3)", sizes, 0, SIZES, LEAST);
+    enough &= report_counts("histories of no more devices than there could be before 02, j (0), of more (1), of as "
+                            "many as there can be (2), openings of more than before accepted (3)", sizes, 0, SIZES,
+                            LEAST);
     printf("bits of heads turned over in turn, each refused with 10: %" PRIu64 "\n", head_bits);
     enough &= report_counts("hops owed after a call: none (0), some (1), the most of a short loop (2), of a long one "
                             "(3), refused with 1 (4), with 2 (5)", owings, 0, OWINGS, LEAST);
