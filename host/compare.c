@@ -62,9 +62,9 @@ enum opening {
 /* A save that is opened: just made, or made before in this history or in another, of as many devices or of others. */
 enum origin { JUST_MADE, THIS_HISTORY, SAME_COUNT, OTHER_COUNT, ORIGINS };
 
-/* A history by its devices: as many as there could be before 02, j, more, or as many as there can be; and an accepted
-   opening of more than there could be. */
-enum size { FORMER, MORE, MOST, MORE_OPENED, SIZES };
+/* A history by its devices: as many as there could be before 02, j, more, or as many as there can be; an accepted
+   opening of more than there could be; a set-up of one too many; and a length that is wrong but in its lowest byte. */
+enum size { FORMER, MORE, MOST, MORE_OPENED, TOO_MANY, LOW_BYTE_RIGHT, SIZES };
 
 enum which { SET_UP, PUT, HOP, TAKE, LOAD, STATUS, WISH, DRAIN, OWED, SAVE, OPEN, DECODE, ENCODE, WHICH };
 
@@ -633,6 +633,7 @@ static size_t wrong_length(size_t right, size_t step, size_t most)
     case 5: other = right > 256 && one_in(2) ? right - 256 : right + 256; break; /* the same lowest byte */
     default: break;
     }
+    sizes[LOW_BYTE_RIGHT] += other <= most && other != right && other % 256 == right % 256;
     return other <= most ? other : most;
 }
 
@@ -672,7 +673,7 @@ static void too_many_call(void)
                      .input_len = PIL_ITEMS_LENGTH(PIL_MOST_DEVICES + 1)};
 
     chance_items(input, PIL_MOST_DEVICES + 1);
-    compare_call(&c);
+    sizes[TOO_MANY] += compare_call(&c).refusal == PIL_SHAPE;
 }
 
 /* Damaged areas. */
@@ -1113,8 +1114,8 @@ static int report(void)
     enough &= report_counts("no saves: cut (0), longer (1), another byte in a head (2), out of order (3), another "
                             "count (4), of no or too many devices (5)", spoilings, 0, SPOILINGS, LEAST);
     enough &= report_counts("histories of no more devices than there could be before 02, j (0), of more (1), of as "
-                            "many as there can be (2), openings of more than before accepted (3)", sizes, 0, SIZES,
-                            LEAST);
+                            "many as there can be (2), openings of more than before accepted (3), set-ups of one too "
+                            "many (4), lengths wrong but in the lowest byte (5)", sizes, 0, SIZES, LEAST);
     printf("bits of heads turned over in turn, each refused with 10: %" PRIu64 "\n", head_bits);
     enough &= report_counts("hops owed after a call: none (0), some (1), the most of a short loop (2), of a long one "
                             "(3), refused with 1 (4), with 2 (5)", owings, 0, OWINGS, LEAST);

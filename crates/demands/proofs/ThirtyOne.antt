@@ -1,4 +1,5 @@
--- The laws over any two limits on devices, at the limit before 02, j, and at the one that holds.
+-- Every call goes by the limit through one definition, and the laws over any two limits say of each that it is the same
+-- at the limit before 02, j, and at the one that holds.
 use Prim.Native.Nat.{ℕ}
 use mathlib.Core.Path.{_≡_, refl, ap, _∙_}
 use mathlib.Core.List.{List}
@@ -20,9 +21,8 @@ use Rattle.limits.specs.Limits.{FewIn, Agree}
 use Rattle.limits.proofs.Limits.{limits-agree, more-refused}
 use Rattle.demands.specs.Calls.{numbers, Action, put, hop, take, load, status, wish, drain, owes, save, Call}
 use Rattle.demands.specs.Calls.{onArea, setUp, opens, decode, encode, plain, hopped, taken, drained, owing}
-use Rattle.demands.specs.Calls.{saving, told, acts, pil}
-use Rattle.demands.specs.Limits.{actsWith, pilWith, FewFor}
-use Rattle.demands.specs.Demands.{formerMost, ThirtyOne}
+use Rattle.demands.specs.Calls.{saving, told, actsWith, pilWith, acts, pil}
+use Rattle.demands.specs.Demands.{formerMost, FewFor, ThirtyOne}
 
 judged : judgeOf (areaOf (blankOf mostDevices)) ≡ 0
 judged = area-sound (blankOf mostDevices) (blank-sound mostDevices (omega arith) (omega arith))
@@ -33,7 +33,6 @@ long =
     ∙ ap (λ (l : Loop). areaSize (size l))
     (loop-back (blankOf mostDevices) (blank-sound mostDevices (omega arith) (omega arith)))
 
--- a call by the limit before, from what its definition says of few devices
 agree : Agree formerMost mostDevices
 agree = limits-agree formerMost mostDevices (omega arith)
 

@@ -1,13 +1,15 @@
--- Every exported call with any arguments, and what it answers and leaves: the very definitions that the contracts of
--- the exported functions cite.
+-- Every exported call with any arguments, and what it answers and leaves: by the limit that holds, the very definitions
+-- that the contracts of the exported functions cite.
 use Prim.Native.Nat.{ℕ, _<_}
 use mathlib.Core.List.{List, map}
-use Rattle.calls.specs.Outcome.{After, after}
-use Rattle.calls.specs.Calls.{noTake, noHop, putOf, takeOf, hopOf, loadOf, statusOf, wishOf}
-use Rattle.calls.specs.Drain.{noDrain, drainOf}
-use Rattle.calls.specs.Owed.{noOwed, owedOf}
-use Rattle.calls.specs.SetUp.{setUpOf}
-use Rattle.saved.specs.Calls.{saveOf, openOf}
+use Rattle.record_local.specs.Local.{loads, setsStatus, wishes}
+use Rattle.area.specs.Sizes.{mostDevices}
+use Rattle.calls.specs.Outcome.{After, after, callWith, reads}
+use Rattle.calls.specs.Calls.{refusal, putIn, noTake, takeIn, noHop, hopIn, localIn}
+use Rattle.calls.specs.Drain.{noDrain, drainIn}
+use Rattle.calls.specs.Owed.{noOwed, owedIn}
+use Rattle.calls.specs.SetUp.{setUpWith}
+use Rattle.saved.specs.Calls.{saveWith, openWith}
 use Rattle.coding.specs.Coding.{noDecoding, decodeAnswer, noEncoding, encodeAnswer}
 use Rattle.calls.specs.declared.HopAnswer.{HopAnswer}
 use Rattle.calls.specs.declared.TakeAnswer.{TakeAnswer}
@@ -61,25 +63,34 @@ pub data Answer : Type 0 where
 abbrev pub told : {A : Type 0} → (A → Answer) → After A → After Answer
 told kind o = after (kind (o .answer)) (o .area)
 
--- what a call on an area answers and leaves; owes and save are lent their area to read alone
-abbrev pub acts : Action → List ℕ → After Answer
-acts (put f) a = told plain (putOf a f)
-acts (hop i) a = told hopped (hopOf a i)
-acts take a = told taken (takeOf a)
-acts (load i bs) a = told plain (loadOf a i (numbers bs))
-acts (status i s) a = told plain (statusOf a i (s .value))
-acts (wish i w) a = told plain (wishOf a i w)
-acts (drain b) a = told drained (drainOf a b)
-acts owes a = after (owing (owedOf a)) a
-acts (save out) a = after (saving (saveOf a (numbers out) .answer) (saveOf a (numbers out) .area)) a
+-- what a call on an area answers and leaves, by a limit on the devices (02, j); owes and save are lent their area to
+-- read alone
+abbrev pub actsWith : ℕ → Action → List ℕ → After Answer
+actsWith limit (put f) a = told plain (callWith limit refusal (putIn f) a)
+actsWith limit (hop i) a = told hopped (callWith limit noHop (hopIn i) a)
+actsWith limit take a = told taken (callWith limit noTake takeIn a)
+actsWith limit (load i bs) a = told plain (callWith limit refusal (localIn (λ d. loads d (numbers bs)) i) a)
+actsWith limit (status i s) a = told plain (callWith limit refusal (localIn (λ d. setsStatus d (s .value)) i) a)
+actsWith limit (wish i w) a = told plain (callWith limit refusal (localIn (λ d. wishes d w) i) a)
+actsWith limit (drain b) a = told drained (callWith limit noDrain (drainIn b) a)
+actsWith limit owes a = after (owing (callWith limit noOwed (reads owedIn) a .answer)) a
+actsWith limit (save out) a =
+    after (saving (saveWith limit a (numbers out) .answer) (saveWith limit a (numbers out) .area)) a
 
 -- what a call answers and leaves; decoder and encoder are lent no area
+abbrev pub pilWith : ℕ → Call → List ℕ → After Answer
+pilWith limit (onArea c) a = actsWith limit c a
+pilWith limit (setUp items) a = told plain (setUpWith limit a (numbers items))
+pilWith limit (opens s) a = told plain (openWith limit a (numbers s))
+pilWith limit (decode f) a = after (decoded (decodeAnswer f)) a
+pilWith limit (encode k o c) a = after (encoded (encodeAnswer k o c)) a
+
+-- both by the limit that holds
+abbrev pub acts : Action → List ℕ → After Answer
+acts c a = actsWith mostDevices c a
+
 abbrev pub pil : Call → List ℕ → After Answer
-pil (onArea c) a = acts c a
-pil (setUp items) a = told plain (setUpOf a (numbers items))
-pil (opens s) a = told plain (openOf a (numbers s))
-pil (decode f) a = after (decoded (decodeAnswer f)) a
-pil (encode k o c) a = after (encoded (encodeAnswer k o c)) a
+pil c a = pilWith mostDevices c a
 
 -- the refusal in an answer, 0 for none
 abbrev pub refusalIn : Answer → ℕ

@@ -2,7 +2,6 @@
 -- speaks of.
 pub mod Calls
 pub mod Conditions
-pub mod Limits
 pub mod Histories
 pub mod Drains
 pub mod Demands
