@@ -42,7 +42,7 @@ static unsigned right_round(unsigned frame)
 
 static void load(const char *text)
 {
-    accepted(pil_load(loop, sizeof loop, METER, (const uint8_t *)text, strlen(text)), "load");
+    accepted(pil_load(loop, sizeof loop, METER, (const uint8_t *)text, strlen(text), PIL_LAST_END), "load");
     memset(got, 0, sizeof got);
 }
 

@@ -62,7 +62,8 @@ int main(void)
     items[PIL_ITEM_AT(PRINTER) + PIL_ITEM_ABILITIES] = PIL_ABILITY_LISTEN | PIL_ABILITY_AUTO_ADDRESS;
     items[PIL_ITEM_AT(PRINTER) + PIL_ITEM_FIXED] = PIL_NO_ADDRESS;
     accepted(pil_set_up(loop, sizeof loop, items, sizeof items), "set-up");
-    accepted(pil_load(loop, sizeof loop, METER, (const uint8_t *)"1.503 V", strlen("1.503 V")), "load");
+    /* The printer prints its line when the last byte comes with the end bit. */
+    accepted(pil_load_end(loop, sizeof loop, METER, (const uint8_t *)"1.503 V", strlen("1.503 V")), "load");
     for (unsigned i = 0; i < sizeof script / sizeof *script; i++) {
         struct pil_encoded encoded = pil_encode(script[i][0], script[i][1], 0);
         accepted(encoded.refusal, "encode");

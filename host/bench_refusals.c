@@ -66,12 +66,14 @@ int main(void)
         accepted(pil_put(loop, sizeof loop, frames[i]), "put");
     refused(pil_take(loop, sizeof loop).refusal, PIL_EMPTY, "took before the frames had hopped to the tail");
     refused(pil_put(loop, sizeof loop, frames[0]), PIL_FULL, "put a fifth frame before any hop");
-    refused(pil_load(loop, sizeof loop, PRINTER, buffer, READING), PIL_NO_ABILITY,
+    refused(pil_load_end(loop, sizeof loop, PRINTER, buffer, READING), PIL_NO_ABILITY,
             "loaded the printer, which sends no data");
-    refused(pil_load(loop, sizeof loop, METER, buffer, sizeof buffer), PIL_TOO_LONG, "loaded a buffer of 33 bytes");
-    accepted(pil_load(loop, sizeof loop, METER, buffer, READING), "load");
+    refused(pil_load_end(loop, sizeof loop, METER, buffer, sizeof buffer), PIL_TOO_LONG, "loaded a buffer of 33 bytes");
+    refused(pil_load(loop, sizeof loop, METER, buffer, READING, PIL_C2), PIL_UNSOUND,
+            "asked for END by its bit in a frame, PIL_C2, in place of PIL_LAST_END");
+    accepted(pil_load(loop, sizeof loop, METER, buffer, READING, PIL_LAST_END), "load");
     accepted(pil_drain(loop, sizeof loop, pil_owed(loop, sizeof loop).hops).refusal, "drain"); /* SDA: a talk begins */
-    refused(pil_load(loop, sizeof loop, METER, buffer, READING), PIL_BUSY, "loaded the meter during its talk");
+    refused(pil_load_end(loop, sizeof loop, METER, buffer, READING), PIL_BUSY, "loaded the meter during its talk");
     refused(pil_open(loop, sizeof loop, copy, sizeof copy), PIL_BAD_SAVE, "opened a copy of the area, not its save");
     damaged(PIL_RECORD_AT(METER) + PIL_RECORD_LISTENER, PIL_UNSOUND, "wrote over a byte of the meter's record");
     damaged(PIL_HEADER_DEVICES, PIL_SHAPE, "wrote over byte 0, the number of devices");

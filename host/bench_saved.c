@@ -54,7 +54,7 @@ static unsigned finish(void)
 int main(void)
 {
     set_up();
-    accepted(pil_load(loop, sizeof loop, METER, (const uint8_t *)"1.5", 3), "load");
+    accepted(pil_load_end(loop, sizeof loop, METER, (const uint8_t *)"1.5", 3), "load"); /* its last byte as an END */
     accepted(pil_put(loop, sizeof loop, pil_encode(PIL_KIND_LAD, PRINTER_ADDRESS, 0).frame), "put");
     finish();
     accepted(pil_put(loop, sizeof loop, pil_encode(PIL_KIND_TAD, METER_ADDRESS, 0).frame), "put");

@@ -171,14 +171,31 @@ static unsigned returned_byte(unsigned frame)
     }
 }
 
-/* What the talker with this record waits for: the byte it sent last, an NRD, or a frame that asks for a reply. */
+/* What the talker with this record waits for: the byte it sent last, an NRD, or a frame that asks for a reply, for data
+   mostly where some is left. */
 static unsigned awaited_frame(const uint8_t *r)
 {
+    int data_left = r[PIL_RECORD_SENT] < r[PIL_RECORD_DATA_LENGTH];
+
     if (r[PIL_RECORD_TALKER] == PIL_TALKER_ADDRESSED)
-        return code(PIL_KIND_SDA) + below(4);
+        return code(PIL_KIND_SDA) + (data_left && one_in(2) ? 0 : below(4));
     if (one_in(12))
         return code(PIL_KIND_NRD);
     return returned_byte(frame_at(r + PIL_RECORD_LAST));
+}
+
+/* A device's record, if possible a talker's. */
+static const uint8_t *chance_talker_record(const uint8_t *area)
+{
+    unsigned n = area[PIL_HEADER_DEVICES], start = below(n);
+
+    for (unsigned i = 0; i < n; i++) {
+        const uint8_t *r = area + PIL_RECORD_AT((start + i) % n);
+
+        if (r[PIL_RECORD_TALKER] != PIL_TALKER_IDLE)
+            return r;
+    }
+    return area + PIL_RECORD_AT(start);
 }
 
 static unsigned single_command(void)
@@ -192,7 +209,7 @@ static unsigned single_command(void)
 
 unsigned chance_frame(const uint8_t *area, unsigned taken)
 {
-    const uint8_t *r = chance_record(area);
+    const uint8_t *r = chance_talker_record(area);
     unsigned choice = below(100);
 
     if (r[PIL_RECORD_TALKER] != PIL_TALKER_IDLE && one_in(2))
@@ -236,6 +253,12 @@ static unsigned chance_talker(const uint8_t *r)
     }
 }
 
+/* Bytes of the data sent: often all but the last. */
+static unsigned chance_sent(unsigned length, unsigned least)
+{
+    return length > least && one_in(2) ? length - 1 : least + below(length + 1 - least);
+}
+
 static void chance_reply(uint8_t *r)
 {
     unsigned talker = chance_talker(r);
@@ -248,7 +271,7 @@ static void chance_reply(uint8_t *r)
     r[PIL_RECORD_LAST] = (uint8_t)last;
     r[PIL_RECORD_LAST + 1] = (uint8_t)(last >> 8);
     if (talker == PIL_TALKER_DATA)
-        r[PIL_RECORD_SENT] = (uint8_t)(1 + below(r[PIL_RECORD_DATA_LENGTH]));
+        r[PIL_RECORD_SENT] = (uint8_t)chance_sent(r[PIL_RECORD_DATA_LENGTH], 1);
     else if (talker == PIL_TALKER_ID)
         r[PIL_RECORD_REPLY_SENT] = (uint8_t)(1 + below(r[PIL_RECORD_ID_LENGTH]));
     else
@@ -277,9 +300,10 @@ static void chance_sound_record(uint8_t *r)
     r[PIL_RECORD_STATUS] = (uint8_t)chance();
     if (abilities & PIL_ABILITY_DATA) {
         r[PIL_RECORD_DATA_LENGTH] = (uint8_t)below(one_in(2) ? 4 : PIL_MOST_DATA + 1);
-        r[PIL_RECORD_SENT] = (uint8_t)below(r[PIL_RECORD_DATA_LENGTH] + 1u);
+        r[PIL_RECORD_SENT] = (uint8_t)chance_sent(r[PIL_RECORD_DATA_LENGTH], 0);
         chance_bytes(r + PIL_RECORD_DATA, r[PIL_RECORD_DATA_LENGTH]);
     }
+    r[PIL_RECORD_END] = (uint8_t)below(2);
     chance_reply(r);
 }
 

@@ -29,8 +29,8 @@ enum {
     DEFAULT_SEED = 20240,
     DEFAULT_CALLS = 1150000,
     FULL_RUN = 1000000, /* calls from which on the counts below are demanded */
-    LEAST = 100, /* how often each refusal must be given, a byte come back, a message be encoded, hops be owed and loops
-                    be saved and opened in each way */
+    LEAST = 100, /* how often each refusal must be given, a byte come back, a message be encoded, hops be owed, data be
+                    loaded and end, and loops be saved and opened in each way */
     LONG = 8,    /* a loop of so many devices or more is a long one */
     MOST_OWED = 2 * PIL_MOST_DEVICES * (PIL_MOST_DEVICES + 1), /* hops */
     FORMER_MOST = 15, /* devices of the longest loop before 02, j */
@@ -42,6 +42,18 @@ enum {
 
 /* How a byte comes back to the device that sent it: the control bits in which it differs, or a data bit. */
 enum returned { AS_SENT, OTHER_C1, OTHER_C2, OTHER_C1_AND_C2, OTHER_DATA, RETURNED };
+
+/* Loads by what they ask for: by a choice, by a number that is none, or by load_end. */
+enum asking { BY_CHOICE, BY_NO_CHOICE, BY_LOAD_END, ASKINGS };
+
+/* The refusals that a load can give, acceptance first. */
+static const uint8_t load_refusals[] = {PIL_ACCEPTED, PIL_SHAPE, PIL_UNSOUND, PIL_NO_DEVICE, PIL_NO_ABILITY,
+                                        PIL_TOO_LONG, PIL_BUSY};
+
+enum { LOAD_REFUSALS = sizeof load_refusals };
+
+/* A choice that is stored over the other one, by a load of bytes or of none. */
+enum storing { PLAIN_WITH_BYTES, END_WITH_BYTES, PLAIN_WITH_NONE, END_WITH_NONE, STORINGS };
 
 /* How an encoding ends: accepted, or refused for one cause alone or for several. */
 enum encoding { WITH_C1_0, WITH_C1_1, BAD_KIND, BAD_OFFSET, C1_OVER_1, C1_WITHOUT_ONE, SEVERAL_CAUSES, ENCODINGS };
@@ -62,21 +74,24 @@ enum opening {
 /* A save that is opened: just made, or made before in this history or in another, of as many devices or of others. */
 enum origin { JUST_MADE, THIS_HISTORY, SAME_COUNT, OTHER_COUNT, ORIGINS };
 
+/* What becomes of an old save (02, h): opened, with devices that have data or none, or refused for a choice alone. */
+enum old_save { OLD_OPENED, END_CHOSEN, END_NOT_CHOSEN, OLD_WITH_CHOICE, OLD_SAVES };
+
 /* A history by its devices: as many as there could be before 02, j, more, or as many as there can be; an accepted
    opening of more than there could be; a set-up of one too many; and a length that is wrong but in its lowest byte. */
 enum size { FORMER, MORE, MOST, MORE_OPENED, TOO_MANY, LOW_BYTE_RIGHT, SIZES };
 
-enum which { SET_UP, PUT, HOP, TAKE, LOAD, STATUS, WISH, DRAIN, OWED, SAVE, OPEN, DECODE, ENCODE, WHICH };
+enum which { SET_UP, PUT, HOP, TAKE, LOAD, LOAD_END, STATUS, WISH, DRAIN, OWED, SAVE, OPEN, DECODE, ENCODE, WHICH };
 
-static const char *const names[WHICH] = {"set_up", "put", "hop", "take", "load", "status", "wish", "drain", "owed",
-                                         "save", "open", "decode", "encode"};
+static const char *const names[WHICH] = {"set_up", "put", "hop", "take", "load", "load_end", "status", "wish", "drain",
+                                         "owed", "save", "open", "decode", "encode"};
 
-/* A call with its arguments; the bytes of set_up, load and open stand in input. */
+/* A call with its arguments; the bytes of set_up, load, load_end and open stand in input. */
 struct call {
     enum which which;
     size_t area_len;
     uint64_t number; /* frame, device, budget or kind */
-    uint64_t second; /* status, wish or offset */
+    uint64_t second; /* choice, status, wish or offset */
     uint64_t third;  /* C1 */
     size_t input_len;
     size_t saved_len; /* of the output of save */
@@ -94,7 +109,8 @@ static uint64_t seed = DEFAULT_SEED, wanted = DEFAULT_CALLS, made;
 static const struct call *under_way;
 static uint64_t refusals[REFUSALS], talkers[TALKERS], reasons[REASONS], returned[RETURNED], encodings[ENCODINGS];
 static uint64_t owings[OWINGS], savings[SAVINGS], openings[OPENINGS], origins[ORIGINS], spoilings[SPOILINGS];
-static uint64_t calls_of[WHICH], sizes[SIZES], head_bits;
+static uint64_t loads[ASKINGS][LOAD_REFUSALS], storings[STORINGS], lasts[PIL_LAST_END + 1], old_saves[OLD_SAVES];
+static uint64_t calls_of[WHICH], sizes[SIZES], head_bits, editions;
 
 /* The history under way: its number, its number of devices, the frame taken last, and whether one frame, many or all
    that the links can hold are under way. */
@@ -177,7 +193,8 @@ static struct answer make(int side, const struct call *c)
     case PUT: return refusal_answer(of->put(area, c->area_len, c->number));
     case HOP: return hopped_answer(of->hop(area, c->area_len, c->number));
     case TAKE: return taken_answer(of->take(area, c->area_len));
-    case LOAD: return refusal_answer(of->load(area, c->area_len, c->number, input, c->input_len));
+    case LOAD: return refusal_answer(of->load(area, c->area_len, c->number, input, c->input_len, c->second));
+    case LOAD_END: return refusal_answer(of->load_end(area, c->area_len, c->number, input, c->input_len));
     case STATUS: return refusal_answer(of->status(area, c->area_len, c->number, (uint8_t)c->second));
     case WISH: return refusal_answer(of->wish(area, c->area_len, c->number, c->second));
     case DRAIN: return drained_answer(of->drain(area, c->area_len, c->number));
@@ -265,8 +282,28 @@ static void catch_signals(void)
 
 /* One call, on both sides. */
 
-/* The device hopped: how it stands, and how its own byte came back if it took one. */
-static void count_hop(unsigned device)
+/* Whether the hop sent a byte of the device's data, and whether all of it is sent now. */
+static int data_sent(unsigned device)
+{
+    size_t sent = PIL_RECORD_AT(device) + PIL_RECORD_SENT;
+
+    return area_of(PIL)[sent] != before[GUARD + sent];
+}
+
+static int all_sent(unsigned device)
+{
+    const uint8_t *r = area_of(PIL) + PIL_RECORD_AT(device);
+
+    return r[PIL_RECORD_SENT] == r[PIL_RECORD_DATA_LENGTH];
+}
+
+static int is_end(const struct answer *hopped)
+{
+    return (hopped->frame & PIL_C2) != 0;
+}
+
+/* The device hopped: how it stands, how its own byte came back if it took one, and how its last went out. */
+static void count_hop(unsigned device, const struct answer *hopped)
 {
     const uint8_t *area = before + GUARD;
     const uint8_t *r = area + PIL_RECORD_AT(device);
@@ -276,6 +313,39 @@ static void count_hop(unsigned device)
     talkers[area_of(PIL)[PIL_RECORD_AT(device) + PIL_RECORD_TALKER]]++;
     if (r[PIL_RECORD_TALKER] >= PIL_TALKER_DATA && frame < PIL_C3)
         returned[other & PIL_DATA_BITS ? OTHER_DATA : other / PIL_C1]++;
+    if (data_sent(device) && all_sent(device))
+        lasts[is_end(hopped)]++;
+}
+
+static int is_load(const struct call *c)
+{
+    return c->which == LOAD || c->which == LOAD_END;
+}
+
+/* The choice that a load stores. */
+static uint64_t choice_of(const struct call *c)
+{
+    return c->which == LOAD_END ? PIL_LAST_END : c->second;
+}
+
+static enum asking asking(const struct call *c)
+{
+    return c->which == LOAD_END ? BY_LOAD_END : c->second > PIL_LAST_END ? BY_NO_CHOICE : BY_CHOICE;
+}
+
+/* By the refusal that there would be with a choice: what holds beside a number that is none shows so. */
+static void count_load(const struct call *c, const struct answer *a)
+{
+    static uint8_t copy[ROOM];
+    unsigned refusal, at = 0;
+
+    memcpy(copy, before, ROOM);
+    refusal = model_load(copy + GUARD, c->area_len, c->number, input, c->input_len, PIL_LAST_PLAIN);
+    while (load_refusals[at] != refusal)
+        at++;
+    loads[asking(c)][at]++;
+    if (a->refusal == PIL_ACCEPTED && before[GUARD + PIL_RECORD_AT(c->number) + PIL_RECORD_END] != choice_of(c))
+        storings[(c->input_len > 0 ? PLAIN_WITH_BYTES : PLAIN_WITH_NONE) + choice_of(c)]++;
 }
 
 /* The cause of a refusal shows when the others are taken away: C1 made 0, or the offset. */
@@ -306,7 +376,9 @@ static void count_answer(const struct call *c, const struct answer *a)
     if (c->which == DRAIN && a->refusal == PIL_ACCEPTED)
         reasons[a->reason]++;
     if (c->which == HOP && a->refusal == PIL_ACCEPTED)
-        count_hop((unsigned)c->number);
+        count_hop((unsigned)c->number, a);
+    if (is_load(c))
+        count_load(c, a);
     if (c->which == ENCODE)
         encodings[encoding(c, a)]++;
     if (c->which == SAVE)
@@ -330,6 +402,19 @@ static int only_lent_bytes_altered(const struct call *c, const struct answer *a)
 
     return altered_within(rooms[PIL], before, writes ? c->area_len : 0, ROOM)
         && (c->which != SAVE || altered_within(saved[PIL], saved_before, accepted ? c->saved_len : 0, SAVED_ROOM));
+}
+
+/* An accepted load stores its choice, and a device ends its data by it (02, h): no model is needed to see this. */
+static int choice_obeyed(const struct call *c, const struct answer *a)
+{
+    unsigned device = (unsigned)c->number;
+    size_t choice = PIL_RECORD_AT(device) + PIL_RECORD_END;
+
+    if (a->refusal == PIL_ACCEPTED && is_load(c))
+        return area_of(PIL)[choice] == choice_of(c);
+    if (a->refusal == PIL_ACCEPTED && c->which == HOP && data_sent(device))
+        return is_end(a) == (all_sent(device) && area_of(PIL)[choice] == PIL_LAST_END);
+    return 1;
 }
 
 /* The most that so many devices can owe: 02, k. */
@@ -441,6 +526,8 @@ static struct answer compare_call(const struct call *c)
         differs("bytes altered that may not be", c, answers);
     if (memcmp(input, input_before, INPUT_ROOM) != 0)
         differs("the items, the bytes to load or the save to open were altered", c, answers);
+    if (!choice_obeyed(c, &answers[PIL]))
+        differs("the choice how the last byte goes out is not obeyed", c, answers);
     if (c->which != DECODE && c->which != ENCODE)
         compare_owed(c, answers);
     under_way = NULL;
@@ -473,15 +560,21 @@ static unsigned some_hopper(void)
     return start;
 }
 
-/* A device, if possible one that is sending. */
-static unsigned some_sender(void)
+/* A device, if possible one in this talker state or a later one. */
+static unsigned some_talker(unsigned least)
 {
     unsigned start = below(n);
 
     for (unsigned i = 0; i < n; i++)
-        if (area_of(MODEL)[PIL_RECORD_AT((start + i) % n) + PIL_RECORD_TALKER] >= PIL_TALKER_DATA)
+        if (area_of(MODEL)[PIL_RECORD_AT((start + i) % n) + PIL_RECORD_TALKER] >= least)
             return (start + i) % n;
     return start;
+}
+
+/* A device, if possible one that is sending. */
+static unsigned some_sender(void)
+{
+    return some_talker(PIL_TALKER_DATA);
 }
 
 static struct call put_call(void)
@@ -511,17 +604,28 @@ static uint64_t some_budget(void)
     return one_in(6) ? hops_owed() : budgets[below(sizeof budgets / sizeof *budgets)];
 }
 
+/* Mostly a choice; else a number that is none, or is one when its high bits are cut off. */
+static uint64_t some_choice(void)
+{
+    static const uint64_t wrong[] = {2, 2, 3, 255, 256, 257, (uint64_t)1 << 32, ((uint64_t)1 << 32) + 1,
+                                     (uint64_t)1 << 63, UINT64_MAX};
+
+    return one_in(5) ? wrong[below(sizeof wrong / sizeof *wrong)] : below(2);
+}
+
 static struct call load_call(unsigned device)
 {
     size_t length = one_in(2) ? below(5) : one_in(4) ? 31 + below(3) : below(MOST_LOAD + 1);
 
     chance_bytes(input, length);
-    return (struct call){.which = LOAD, .number = device, .input_len = length};
+    if (one_in(4))
+        return (struct call){.which = LOAD_END, .number = device, .input_len = length};
+    return (struct call){.which = LOAD, .number = device, .second = some_choice(), .input_len = length};
 }
 
 static struct call local_call(void)
 {
-    unsigned device = one_in(4) ? some_sender() : below(n);
+    unsigned device = one_in(4) ? some_sender() : one_in(2) ? some_talker(PIL_TALKER_ADDRESSED) : below(n);
 
     switch (below(5)) {
     case 0:
@@ -615,7 +719,7 @@ static void wild_number_call(void)
     struct call c = sensible_call();
 
     c.number = wild_number(c.number);
-    if (c.which == WISH)
+    if (c.which == WISH || (c.which == LOAD && one_in(2)))
         c.second = wild_number(c.second);
     compare_call(&c);
 }
@@ -683,12 +787,13 @@ static size_t damaged_place(void)
     size_t record = PIL_RECORD_AT(one_in(2) ? some_sender() : below(n));
     size_t link = PIL_LINK_AT(n, below(n + 1));
 
-    switch (below(8)) {
+    switch (below(9)) {
     case 0: return below(PIL_HEADER_LENGTH);
     case 1: return link + below(PIL_LINK_LENGTH);
     case 2: return link + below(PIL_LINK_FRAMES);
     case 3: return record + below(PIL_RECORD_LENGTH);
-    default: return record + below(PIL_RECORD_ZEROS + 1);
+    case 4: return record + PIL_RECORD_END;
+    default: return record + below(PIL_RECORD_MORE_ZEROS + 1);
     }
 }
 
@@ -757,12 +862,14 @@ static _Noreturn void breaks(const char *law, const struct call *c, const struct
     exit(1);
 }
 
-/* What was opened has just this save: no model is needed to see this. */
-static void save_again(const struct save *s)
+/* What was opened has just this save, or an old one's upgrade: no model is needed to see this. */
+static void save_again(struct save *s)
 {
     struct call c = {.which = SAVE, .area_len = PIL_AREA_LENGTH(n), .saved_len = PIL_SAVE_LENGTH(n)};
     struct answer a = compare_call(&c);
 
+    if (s->bytes[PIL_SAVE_EDITION] == PIL_EDITION_OLD)
+        upgrade(s);
     if (a.refusal != PIL_ACCEPTED || s->length != c.saved_len || memcmp(save_of(PIL), s->bytes, s->length) != 0)
         breaks("what was opened has another save", &c, &a);
 }
@@ -831,40 +938,82 @@ static void spoil_some_form(struct save *s)
     spoilings[how]++;
 }
 
-/* Opens a kept save, sometimes with other contents, spoilt, or in an area of another length. */
+/* What is opened: a kept save, sometimes made old, with other contents, or spoilt. */
+struct tried {
+    struct save save;
+    unsigned devices;
+    int old, unsound, spoilt; /* unsound before it was spoilt */
+};
+
+static int has_choice(struct save *s)
+{
+    for (unsigned i = 0; i < saved_devices(s); i++)
+        if (saved_record(s, i)[PIL_RECORD_END] != 0)
+            return 1;
+    return 0;
+}
+
+static struct tried some_tried(const struct save *s)
+{
+    struct tried t = {.save = *s, .devices = saved_devices(s)};
+
+    t.old = one_in(3);
+    if (t.old)
+        make_old(&t.save, one_in(4));
+    if (one_in(2))
+        spoil_contents(&t.save);
+    t.unsound = saved_unsound(&t.save) || (t.old && has_choice(&t.save));
+    t.spoilt = one_in(2);
+    if (t.spoilt)
+        spoil_some_form(&t.save);
+    return t;
+}
+
+/* An old save that was opened, or refused with 2: for a choice alone if it would be opened as a new one. */
+static void count_old(struct tried t, uint64_t refusal)
+{
+    if (refusal == PIL_UNSOUND) {
+        t.save.bytes[PIL_SAVE_EDITION] = PIL_EDITION_NOW;
+        old_saves[OLD_WITH_CHOICE] += !saved_unsound(&t.save);
+        return;
+    }
+    old_saves[OLD_OPENED]++;
+    for (unsigned i = 0; i < t.devices; i++)
+        old_saves[saved_record(&t.save, i)[PIL_RECORD_DATA_LENGTH] > 0 ? END_CHOSEN : END_NOT_CHOSEN]++;
+}
+
+static void count_opening(const struct tried *t, const struct kept *k)
+{
+    origins[k->history == history_now ? THIS_HISTORY : t->devices == n ? SAME_COUNT : OTHER_COUNT]++;
+    sizes[MORE_OPENED] += t->devices > FORMER_MOST;
+}
+
+/* Opens a kept save or what was made of it, sometimes in an area of another length. */
 static void open_kept(const struct kept *k)
 {
     static uint8_t good[ROOM];
-    struct save s = k->save;
-    unsigned devices = saved_devices(&s);
-    size_t right = PIL_AREA_LENGTH(devices), area_len;
-    int spoilt = one_in(2), unsound;
-    enum opening end;
+    struct tried t = some_tried(&k->save);
+    size_t right = PIL_AREA_LENGTH(t.devices), area_len = some_area_length(right, &t.save);
+    enum opening end = opening(t.spoilt, area_len != right, t.unsound);
     struct call c;
     struct answer a;
 
-    if (one_in(2))
-        spoil_contents(&s);
-    unsound = saved_unsound(&s);
-    if (spoilt)
-        spoil_some_form(&s);
-    area_len = some_area_length(right, &s);
-    end = opening(spoilt, area_len != right, unsound);
     memcpy(good, rooms[MODEL], ROOM);
     lend_area(area_len);
-    c = open_call(&s, area_len);
+    c = open_call(&t.save, area_len);
     a = compare_call(&c);
     if (a.refusal != refusal_of[end])
         breaks("not the first of 10, 1 and 2 that holds", &c, &a);
     openings[end]++;
+    if (t.old && (a.refusal == PIL_ACCEPTED || a.refusal == PIL_UNSOUND))
+        count_old(t, a.refusal);
     if (a.refusal != PIL_ACCEPTED) {
         set_rooms(good);
         return;
     }
-    origins[k->history == history_now ? THIS_HISTORY : devices == n ? SAME_COUNT : OTHER_COUNT]++;
-    n = devices;
-    sizes[MORE_OPENED] += n > FORMER_MOST;
-    save_again(&s);
+    count_opening(&t, k);
+    n = t.devices;
+    save_again(&t.save);
 }
 
 /* A loop that is being filled is mostly left to go on. */
@@ -993,18 +1142,26 @@ static void history(void)
     }
 }
 
-/* All heads of saves, and all codes. */
+/* All heads of saves, all editions, and all codes. */
+
+/* The save of a sound area of so many devices, which the area of both sides becomes. */
+static struct save some_sound_save(unsigned devices)
+{
+    struct save s = {.length = PIL_SAVE_LENGTH(devices)};
+
+    chance_sound_area(area_of(PIL), devices);
+    memcpy(rooms[MODEL], rooms[PIL], ROOM);
+    if (model_save(area_of(MODEL), PIL_AREA_LENGTH(devices), s.bytes, s.length) != PIL_ACCEPTED)
+        wrong_material("to save a sound area");
+    return s;
+}
 
 /* Each bit of each head of a save of so many devices turned over; the area stays a sound one of as many. */
 static void compare_heads(unsigned devices)
 {
-    struct save s = {.length = PIL_SAVE_LENGTH(devices)}, changed;
+    struct save s = some_sound_save(devices), changed;
     size_t area_len = PIL_AREA_LENGTH(devices);
 
-    chance_sound_area(area_of(PIL), devices);
-    memcpy(rooms[MODEL], rooms[PIL], ROOM);
-    if (model_save(area_of(MODEL), area_len, s.bytes, s.length) != PIL_ACCEPTED)
-        wrong_material("to save a sound area");
     for (unsigned part = 0; part_at(devices, part) < s.length; part++)
         for (unsigned bit = 0; bit < 8 * PIL_SAVE_HEAD_LENGTH; bit++) {
             struct call c;
@@ -1018,6 +1175,30 @@ static void compare_heads(unsigned devices)
                 breaks("a save with another bit in a head is not refused as none", &c, &a);
             head_bits++;
         }
+}
+
+/* Every number in the place of the edition of a save of so many devices: all but the two that there are give 10. */
+static void compare_editions(unsigned devices)
+{
+    struct save s = some_sound_save(devices);
+
+    for (unsigned edition = 0; edition <= UINT8_MAX; edition++) {
+        struct call c;
+        struct answer a;
+
+        s.bytes[PIL_SAVE_EDITION] = (uint8_t)edition;
+        c = open_call(&s, PIL_AREA_LENGTH(devices));
+        a = compare_call(&c);
+        if ((a.refusal == PIL_BAD_SAVE) != (edition > PIL_EDITION_NOW))
+            breaks("not refused with 10 just where there is no such edition", &c, &a);
+        editions += a.refusal == PIL_BAD_SAVE;
+    }
+}
+
+static void compare_saves(unsigned devices)
+{
+    compare_heads(devices);
+    compare_editions(devices);
 }
 
 /* A kind and an offset with C1 right, wrong, and right when its high bits are cut off. */
@@ -1089,6 +1270,41 @@ static int report_counts(const char *what, const uint64_t *counts, unsigned from
     return enough;
 }
 
+static int report_loads(void)
+{
+    int enough = report_counts("loads with a choice accepted (0), refused with 1 (1), 2 (2), 3 (3), 7 (4), 8 (5), 9 "
+                               "(6)", loads[BY_CHOICE], 0, LOAD_REFUSALS, LEAST);
+
+    enough &= report_counts("loads with a number that is no choice, by what else holds: nothing (0), 1, which is given "
+                            "(1), or beside the 2 that is given 2 for the area (2), 3 (3), 7 (4), 8 (5), 9 (6)",
+                            loads[BY_NO_CHOICE], 0, LOAD_REFUSALS, LEAST);
+    enough &= report_counts("loads by load_end accepted (0), refused with 1 (1), 2 (2), 3 (3), 7 (4), 8 (5), 9 (6)",
+                            loads[BY_LOAD_END], 0, LOAD_REFUSALS, LEAST);
+    enough &= report_counts("choices stored over the other one: plain (0), END (1), with no bytes plain (2), END (3)",
+                            storings, 0, STORINGS, LEAST);
+    enough &= report_counts("last bytes sent at a hop: plain (0), END (1)", lasts, 0, PIL_LAST_END + 1, LEAST);
+    return enough;
+}
+
+static int report_saves(void)
+{
+    int enough = report_counts("savings accepted (0), refused for the area's shape (1), the output's length (2), also "
+                               "where the area is unsound (3), an unsound area (4)", savings, 0, SAVINGS, LEAST);
+
+    enough &= report_counts("openings accepted (0), refused with 10 alone (1), also where 1 (2), 2 (3) or both hold "
+                            "(4), with 1 alone (5), also where 2 holds (6), with 2 (7)", openings, 0, OPENINGS, LEAST);
+    enough &= report_counts("saves opened: just made (0), of this history (1), of another with as many devices (2), "
+                            "with more or fewer (3)", origins, 0, ORIGINS, LEAST);
+    enough &= report_counts("old saves opened (0), devices in them with data, for which END is chosen (1), and without "
+                            "(2); old saves refused for a choice alone (3)", old_saves, 0, OLD_SAVES, LEAST);
+    enough &= report_counts("no saves: cut (0), longer (1), another byte in a head (2), out of order (3), another "
+                            "count (4), of no or too many devices (5), of no edition (6)", spoilings, 0, SPOILINGS,
+                            LEAST);
+    printf("bits of heads turned over in turn, each refused with 10: %" PRIu64 "; editions that there are not, each "
+           "refused with 10: %" PRIu64 "\n", head_bits, editions);
+    return enough;
+}
+
 static int report(void)
 {
     int enough = 1;
@@ -1102,21 +1318,14 @@ static int report(void)
     enough &= report_counts("reasons of drains", reasons, 0, REASONS, 1);
     enough &= report_counts("bytes come back as sent (0), with another C1 (1), C2 (2), both (3), data (4)", returned, 0,
                             RETURNED, LEAST);
+    enough &= report_loads();
     enough &= report_counts("encodings accepted with C1 0 (0), with C1 1 (1), refused for the kind (2), the offset "
                             "(3), a C1 over 1 (4), a C1 of 1 on a kind without one (5), several causes (6)", encodings,
                             0, ENCODINGS, LEAST);
-    enough &= report_counts("savings accepted (0), refused for the area's shape (1), the output's length (2), also "
-                            "where the area is unsound (3), an unsound area (4)", savings, 0, SAVINGS, LEAST);
-    enough &= report_counts("openings accepted (0), refused with 10 alone (1), also where 1 (2), 2 (3) or both hold "
-                            "(4), with 1 alone (5), also where 2 holds (6), with 2 (7)", openings, 0, OPENINGS, LEAST);
-    enough &= report_counts("saves opened: just made (0), of this history (1), of another with as many devices (2), "
-                            "with more or fewer (3)", origins, 0, ORIGINS, LEAST);
-    enough &= report_counts("no saves: cut (0), longer (1), another byte in a head (2), out of order (3), another "
-                            "count (4), of no or too many devices (5)", spoilings, 0, SPOILINGS, LEAST);
+    enough &= report_saves();
     enough &= report_counts("histories of no more devices than there could be before 02, j (0), of more (1), of as "
                             "many as there can be (2), openings of more than before accepted (3), set-ups of one too "
                             "many (4), lengths wrong but in the lowest byte (5)", sizes, 0, SIZES, LEAST);
-    printf("bits of heads turned over in turn, each refused with 10: %" PRIu64 "\n", head_bits);
     enough &= report_counts("hops owed after a call: none (0), some (1), the most of a short loop (2), of a long one "
                             "(3), refused with 1 (4), with 2 (5)", owings, 0, OWINGS, LEAST);
     return enough;
@@ -1139,9 +1348,9 @@ int main(int argc, char **argv)
     chance_seed(seed);
     while (made < wanted)
         history();
-    compare_heads(1);
-    compare_heads(2);
-    compare_heads(PIL_MOST_DEVICES);
+    compare_saves(1);
+    compare_saves(2);
+    compare_saves(PIL_MOST_DEVICES);
     compare_small_codes();
     compare_wide_codes();
     enough = report();

@@ -44,9 +44,10 @@ static unsigned send_frame(unsigned kind, unsigned number)
     return right_round(encoded.frame);
 }
 
+/* The controller reads till ETO, so the last byte need not be an END. */
 static void load(unsigned device, const char *reading)
 {
-    accepted(pil_load(loop, sizeof loop, device, (const uint8_t *)reading, strlen(reading)), "load");
+    accepted(pil_load(loop, sizeof loop, device, (const uint8_t *)reading, strlen(reading), PIL_LAST_PLAIN), "load");
 }
 
 static int talks(unsigned device)

@@ -1,9 +1,10 @@
 #!/bin/sh
 # Shows that the comparison can fail: with each deliberate fault in the model it must find a difference within twenty
 # thousand calls, for each of three seeds, and without a fault none. So must saves, run on the model in place of libpil,
-# with each fault of reading a save. Use: faults.sh FAULTS SAVE_FAULTS DIRECTORY [RUNNER..], faults being numbers
-faults=$1 save_faults=$2 dir=$3
-shift 3
+# with each fault of writing or reading a save. Use: faults.sh FAULTS SAVE_FAULTS DIRECTORY OLD_SAVE [RUNNER..], faults
+# being numbers.
+faults=$1 save_faults=$2 dir=$3 old_save=$4
+shift 4
 calls=20000
 status=0
 for seed in 1 2 3; do
@@ -25,7 +26,7 @@ for seed in 1 2 3; do
     fi
 done
 for fault in 0 $save_faults; do
-    "$@" "$dir/saves-fault$fault" "$dir/saved" > "$dir/saves-fault.out"
+    "$@" "$dir/saves-fault$fault" "$dir/saved" "$old_save" > "$dir/saves-fault.out"
     found=$?
     echo "saves, fault $fault: $(cat "$dir/saves-fault.out")"
     if [ $((found != 0)) -ne $((fault != 0)) ]; then

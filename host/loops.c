@@ -60,6 +60,7 @@ void full_record(uint8_t *record, unsigned address, unsigned talker)
     record[PIL_RECORD_ID_LENGTH] = PIL_MOST_ID;
     record[PIL_RECORD_DATA_LENGTH] = PIL_MOST_DATA;
     record[PIL_RECORD_SENT] = PIL_MOST_DATA / 2;
+    record[PIL_RECORD_END] = PIL_LAST_END;
     for (unsigned k = 0; k < PIL_MOST_ID + PIL_MOST_DATA; k++)
         record[PIL_RECORD_ID + k] = (uint8_t)(LOOP_FIRST_BYTE + k);
     if (talker > PIL_TALKER_DATA)

@@ -24,7 +24,8 @@ void idle_loop(uint8_t *area);
 /* Makes the link hold that many frames, the first and then each by the step more than the one before. */
 void fill_link(uint8_t *area, unsigned link, unsigned frames, unsigned first, unsigned step);
 
-/* A record with every ability, configured at the address, ID and data of full length and half sent; no listener. */
+/* A record with every ability, configured at the address, ID and data of full length and half sent, the data to end in
+   an END; no listener. */
 void full_record(uint8_t *record, unsigned address, unsigned talker);
 /* Full records, the talker states in turn so that the last device is sending data, service mixed; every link holds
    four data bytes, and each byte that comes to a sending device is its own, undamaged. */

@@ -12,7 +12,8 @@
 enum {
     REPLIES = PIL_ABILITY_DATA | PIL_ABILITY_STATUS | PIL_ABILITY_ID | PIL_ABILITY_ACCESSORY,
     ETO = 0x540,
-    ETE = 0x541
+    ETE = 0x541,
+    HEADER_EDITION = PIL_SAVE_EDITION - PIL_SAVE_HEAD_LENGTH /* the edition's place in a saved header */
 };
 
 static unsigned get16(const uint8_t *at)
@@ -216,7 +217,9 @@ static int ranges_hold(const uint8_t *r)
         && r[PIL_RECORD_ID_LENGTH] <= PIL_MOST_ID
         && r[PIL_RECORD_DATA_LENGTH] <= PIL_MOST_DATA
         && r[PIL_RECORD_SENT] <= r[PIL_RECORD_DATA_LENGTH]
-        && all_zero(r, PIL_RECORD_ZEROS, PIL_RECORD_ID);
+        && all_zero(r, PIL_RECORD_ZEROS, PIL_RECORD_END)
+        && r[PIL_RECORD_END] <= PIL_LAST_END + (MODEL_FAULT == 31)
+        && all_zero(r, PIL_RECORD_MORE_ZEROS, PIL_RECORD_ID);
 }
 
 static int address_sound(const uint8_t *r)
@@ -446,13 +449,14 @@ static unsigned left_to_send(const uint8_t *r, unsigned talker)
     }
 }
 
-/* Only data ends in an END. */
+/* Only data ends in an END, and only where that was chosen (02, h). */
 static unsigned next_data_byte(uint8_t *r)
 {
     unsigned byte = r[PIL_RECORD_DATA + r[PIL_RECORD_SENT]];
+    int ends = r[PIL_RECORD_END] == PIL_LAST_END || MODEL_FAULT == 24;
 
     r[PIL_RECORD_SENT]++;
-    return r[PIL_RECORD_SENT] == r[PIL_RECORD_DATA_LENGTH] ? byte | PIL_C2 : byte;
+    return ends && r[PIL_RECORD_SENT] == r[PIL_RECORD_DATA_LENGTH] ? byte | PIL_C2 : byte;
 }
 
 static unsigned next_other_byte(uint8_t *r)
@@ -680,9 +684,23 @@ static uint8_t local_refusal(const uint8_t *area, size_t area_len, uint64_t devi
     return area[PIL_RECORD_AT(device) + PIL_RECORD_ABILITIES] & ability ? PIL_ACCEPTED : PIL_NO_ABILITY;
 }
 
-uint8_t model_load(uint8_t *area, size_t area_len, uint64_t device, const uint8_t *bytes, size_t bytes_len)
+static int choice_allowed(uint64_t end)
 {
-    uint8_t refusal = local_refusal(area, area_len, device, PIL_ABILITY_DATA);
+    return (MODEL_FAULT == 28 ? end % 256 : end) <= PIL_LAST_END + (MODEL_FAULT == 27);
+}
+
+/* A wrong choice is 2, beside an unsound area (02, h): so before 3 and all that follow it, and after 1. */
+static uint8_t choice_refusal(uint8_t refusal, uint64_t end)
+{
+    if (choice_allowed(end) || (refusal == PIL_SHAPE && MODEL_FAULT != 30))
+        return refusal;
+    return MODEL_FAULT == 29 && refusal == PIL_NO_DEVICE ? refusal : PIL_UNSOUND;
+}
+
+uint8_t model_load(uint8_t *area, size_t area_len, uint64_t device, const uint8_t *bytes, size_t bytes_len,
+                   uint64_t end)
+{
+    uint8_t refusal = choice_refusal(local_refusal(area, area_len, device, PIL_ABILITY_DATA), end);
     uint8_t *r;
 
     if (refusal)
@@ -690,13 +708,22 @@ uint8_t model_load(uint8_t *area, size_t area_len, uint64_t device, const uint8_
     if (bytes_len > PIL_MOST_DATA)
         return PIL_TOO_LONG;
     r = area + PIL_RECORD_AT(device);
+    if (MODEL_FAULT == 26)
+        r[PIL_RECORD_END] = (uint8_t)end;
     if (r[PIL_RECORD_TALKER] == PIL_TALKER_DATA)
         return PIL_BUSY;
+    if (bytes_len > 0 || MODEL_FAULT != 25)
+        r[PIL_RECORD_END] = (uint8_t)end;
     r[PIL_RECORD_DATA_LENGTH] = (uint8_t)bytes_len;
     r[PIL_RECORD_SENT] = 0;
     memset(r + PIL_RECORD_DATA, 0, PIL_MOST_DATA);
     memcpy(r + PIL_RECORD_DATA, bytes, bytes_len);
     return PIL_ACCEPTED;
+}
+
+uint8_t model_load_end(uint8_t *area, size_t area_len, uint64_t device, const uint8_t *bytes, size_t bytes_len)
+{
+    return model_load(area, area_len, device, bytes, bytes_len, MODEL_FAULT == 32 ? PIL_LAST_PLAIN : PIL_LAST_END);
 }
 
 uint8_t model_status(uint8_t *area, size_t area_len, uint64_t device, uint8_t status)
@@ -784,7 +811,7 @@ struct pil_owing model_owed(const uint8_t *area, size_t area_len)
     return owing;
 }
 
-/* Saved loops: 02, a. The bodies of a save, one after the other, are the bytes of its area. */
+/* Saved loops: 02, a and h. The bodies of a save in a row are the bytes of its area, but for the edition. */
 
 /* What is left of a save to read, and where its next body goes. */
 struct reading {
@@ -805,6 +832,7 @@ static uint8_t *write_body(uint8_t *at, unsigned kind, const uint8_t *body, unsi
 
 uint8_t model_save(const uint8_t *area, size_t area_len, uint8_t *save, size_t save_len)
 {
+    uint8_t *at;
     unsigned n;
 
     if (!shape_right(area, area_len))
@@ -814,11 +842,12 @@ uint8_t model_save(const uint8_t *area, size_t area_len, uint8_t *save, size_t s
         return PIL_SHAPE;
     if (!area_sound(area))
         return PIL_UNSOUND;
-    save = write_body(save, PIL_SAVED_HEADER, area, PIL_HEADER_LENGTH);
+    at = write_body(save, PIL_SAVED_HEADER, area, PIL_HEADER_LENGTH);
+    save[PIL_SAVE_EDITION] = MODEL_FAULT == 33 ? PIL_EDITION_OLD : PIL_EDITION_NOW;
     for (unsigned i = 0; i < n; i++)
-        save = write_body(save, PIL_SAVED_RECORD, area + PIL_RECORD_AT(i), PIL_RECORD_LENGTH);
+        at = write_body(at, PIL_SAVED_RECORD, area + PIL_RECORD_AT(i), PIL_RECORD_LENGTH);
     for (unsigned i = 0; i <= n; i++)
-        save = write_body(save, PIL_SAVED_LINK, area + PIL_LINK_AT(n, i), PIL_LINK_LENGTH);
+        at = write_body(at, PIL_SAVED_LINK, area + PIL_LINK_AT(n, i), PIL_LINK_LENGTH);
     return PIL_ACCEPTED;
 }
 
@@ -845,12 +874,17 @@ static int read_body(struct reading *r, unsigned kind, unsigned length)
     return 1;
 }
 
+static int is_edition(unsigned edition)
+{
+    return edition <= PIL_EDITION_NOW + (MODEL_FAULT == 34) || MODEL_FAULT == 35;
+}
+
 /* Reads all of a save into a loop's area; gives 0 where it is none. The contents are not judged. */
 static int read_save(struct reading *r)
 {
-    const uint8_t *devices = r->to + PIL_HEADER_DEVICES;
+    const uint8_t *devices = r->to + PIL_HEADER_DEVICES, *edition = r->to + HEADER_EDITION;
 
-    if (!read_body(r, PIL_SAVED_HEADER, PIL_HEADER_LENGTH))
+    if (!read_body(r, PIL_SAVED_HEADER, PIL_HEADER_LENGTH) || !is_edition(*edition))
         return 0;
     if (*devices < 1 || *devices > (MODEL_FAULT == 22 ? PIL_MOST_DEVICES / 2 : PIL_MOST_DEVICES + (MODEL_FAULT == 19)))
         return 0;
@@ -863,24 +897,61 @@ static int read_save(struct reading *r)
     return r->left == 0 || MODEL_FAULT == 14;
 }
 
+/* Whether the loop read is that of an old save. The area has a zero where a save has its edition. */
+static int take_edition(uint8_t *loop)
+{
+    int old = loop[HEADER_EDITION] == PIL_EDITION_OLD;
+
+    if (MODEL_FAULT != 35 || loop[HEADER_EDITION] == PIL_EDITION_NOW)
+        loop[HEADER_EDITION] = 0;
+    return old;
+}
+
+/* The records are judged as they stand in the save; in an old one none may have a choice (02, h). */
+static int saved_sound(const uint8_t *loop, int old)
+{
+    if (!area_sound(loop))
+        return 0;
+    for (unsigned i = 0; old && i < loop[PIL_HEADER_DEVICES]; i++)
+        if (loop[PIL_RECORD_AT(i) + PIL_RECORD_END] != 0 && MODEL_FAULT != 39)
+            return 0;
+    return 1;
+}
+
+/* The loop of an old save, whose data still ends in an END: each device with data has chosen it (02, h). */
+static void choose_end(uint8_t *loop)
+{
+    for (unsigned i = 0; i < loop[PIL_HEADER_DEVICES] && MODEL_FAULT != 37; i++) {
+        uint8_t *r = loop + PIL_RECORD_AT(i);
+
+        if (r[PIL_RECORD_DATA_LENGTH] > 0 || MODEL_FAULT == 38)
+            r[PIL_RECORD_END] = PIL_LAST_END;
+    }
+}
+
 /* The order of the refusals is the request's: 10, 1, 2. */
 uint8_t model_open(uint8_t *area, size_t area_len, const uint8_t *save, size_t save_len)
 {
     uint8_t loop[PIL_AREA_LENGTH(PIL_MOST_DEVICES + (MODEL_FAULT == 19))];
-    int read = read_save(&(struct reading){save, save_len, loop});
+    int read = read_save(&(struct reading){save, save_len, loop}), old;
 
     if (MODEL_FAULT == 16 && devices_of_length(area_len) == 0)
         return PIL_SHAPE;
     if (!read)
         return PIL_BAD_SAVE;
+    old = take_edition(loop);
     if (MODEL_FAULT == 15)
         memset(loop + PIL_HEADER_ZEROS, 0, PIL_HEADER_LENGTH - PIL_HEADER_ZEROS);
-    if (MODEL_FAULT == 17 && !area_sound(loop))
+    if (MODEL_FAULT == 17 && !saved_sound(loop, old))
         return PIL_UNSOUND;
     if (area_len != PIL_AREA_LENGTH(loop[PIL_HEADER_DEVICES]))
         return PIL_SHAPE;
-    if (!area_sound(loop))
+    if (!saved_sound(loop, old))
         return PIL_UNSOUND;
+    if (old || MODEL_FAULT == 40)
+        choose_end(loop);
+    if (MODEL_FAULT == 36)
+        loop[HEADER_EDITION] = !old;
     memcpy(area, loop, area_len);
     return PIL_ACCEPTED;
 }

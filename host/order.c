@@ -4,6 +4,7 @@
 
 #include "chance.h"
 #include "pil.h"
+#include "spoil.h"
 
 #include <inttypes.h>
 #include <stdio.h>
@@ -14,7 +15,8 @@ enum {
     MOST_PUTS = 80,
     MOST_FRAMES = PIL_LINK_DEPTH * (PIL_MOST_DEVICES + 1) + MOST_PUTS, /* in the links at first, and put */
     MOST_LOCALS = 120,
-    LEAST = 100, /* how many histories must begin from an opening, and how often one must hold a save and its opening */
+    LEAST = 100, /* how many histories must begin from an opening, as many of them of an old save, and how often one
+                    must hold a save and its opening */
     LEAST_LONGEST = 50 /* how many must have as many devices as there can be */
 };
 
@@ -24,7 +26,7 @@ enum which { LOAD, STATUS, WISH };
 struct local {
     enum which which;
     unsigned device, before;
-    uint64_t value;
+    uint64_t value; /* choice, status or wish */
     uint8_t bytes[PIL_MOST_DATA];
     size_t length;
 };
@@ -130,7 +132,7 @@ static void drain(struct loop *l, uint64_t budget)
 static int local(struct loop *l, const struct local *c)
 {
     switch (c->which) {
-    case LOAD: return pil_load(l->area, l->area_len, c->device, c->bytes, c->length) == PIL_ACCEPTED;
+    case LOAD: return pil_load(l->area, l->area_len, c->device, c->bytes, c->length, c->value) == PIL_ACCEPTED;
     case STATUS: return pil_status(l->area, l->area_len, c->device, (uint8_t)c->value) == PIL_ACCEPTED;
     default: return pil_wish(l->area, l->area_len, c->device, c->value) == PIL_ACCEPTED;
     }
@@ -164,7 +166,7 @@ static void random_local(struct loop *l)
     c->which = (enum which)below(3);
     c->device = below(l->n);
     c->before = hops_made(l, c->device);
-    c->value = one_in(3) ? 0 : chance();
+    c->value = c->which == LOAD ? below(2) : one_in(3) ? 0 : chance();
     c->length = below(one_in(2) ? 4 : PIL_MOST_DATA + 1);
     chance_bytes(c->bytes, c->length);
     if (local(l, c))
@@ -270,18 +272,21 @@ static void begin_both_by_set_up(unsigned n)
     }
 }
 
-/* Any saved loop, frames in its links and all. */
-static void begin_both_by_opening(unsigned n)
+/* Any saved loop, frames in its links and all, in a new save or an old one. */
+static void begin_both_by_opening(unsigned n, int old)
 {
-    uint8_t area[PIL_AREA_LENGTH(PIL_MOST_DEVICES)], save[PIL_SAVE_LENGTH(PIL_MOST_DEVICES)];
+    uint8_t area[PIL_AREA_LENGTH(PIL_MOST_DEVICES)];
+    struct save save = {.length = PIL_SAVE_LENGTH(n)};
 
     chance_sound_area(area, n);
-    must(pil_save(area, PIL_AREA_LENGTH(n), save, PIL_SAVE_LENGTH(n)) == PIL_ACCEPTED, "the saving is refused");
+    must(pil_save(area, PIL_AREA_LENGTH(n), save.bytes, save.length) == PIL_ACCEPTED, "the saving is refused");
+    if (old)
+        make_old(&save, 0);
     for (unsigned i = 0; i < 2; i++) {
         struct loop *l = i ? &right_round : &mixed;
 
         begin(l, n);
-        open_in(l, save, PIL_SAVE_LENGTH(n));
+        open_in(l, save.bytes, save.length);
         for (unsigned link = 0; link <= n; link++) {
             l->at_first[link] = frames_in(l, link);
             l->owed_at_first += (n - link) * frames_in(l, link);
@@ -301,12 +306,12 @@ static void must_be_equal(void)
 }
 
 /* Gives the frames in the links at first. */
-static unsigned one_history(int by_opening)
+static unsigned one_history(int by_opening, int old)
 {
     unsigned n = chance_devices(), puts = 1 + below(MOST_PUTS), at_first = 0;
 
     if (by_opening)
-        begin_both_by_opening(n);
+        begin_both_by_opening(n, old);
     else
         begin_both_by_set_up(n);
     while (mixed.puts < puts)
@@ -322,15 +327,16 @@ static unsigned one_history(int by_opening)
 
 int order_histories(uint64_t seed, uint64_t histories)
 {
-    uint64_t opened = 0, at_first = 0, longest = 0, puts = 0, reopened = 0, locals = 0, hops = 0, handed = 0;
+    uint64_t opened = 0, old = 0, at_first = 0, longest = 0, puts = 0, reopened = 0, locals = 0, hops = 0, handed = 0;
 
     seed_now = seed;
     for (history_now = 1; history_now <= histories; history_now++) {
-        int by_opening = history_now % 2 == 0;
+        int by_opening = history_now % 2 == 0, of_old = history_now % 4 == 0;
 
         chance_seed(seed + (history_now << 32));
-        at_first += one_history(by_opening);
+        at_first += one_history(by_opening, of_old);
         opened += (unsigned)by_opening;
+        old += (unsigned)of_old;
         longest += mixed.n == PIL_MOST_DEVICES;
         puts += mixed.puts;
         reopened += mixed.reopened;
@@ -339,9 +345,10 @@ int order_histories(uint64_t seed, uint64_t histories)
         for (unsigned device = 0; device < mixed.n; device++)
             handed += mixed.handeds[device];
     }
-    printf("order: %" PRIu64 " histories equal to their right-round ones, %" PRIu64 " of them from an opening with %"
-           PRIu64 " frames in the links, %" PRIu64 " of %d devices; %" PRIu64 " frames put, %" PRIu64
-           " times saved and opened, %" PRIu64 " accepted local calls, %" PRIu64 " hops, %" PRIu64 " bytes handed\n",
-           histories, opened, at_first, longest, PIL_MOST_DEVICES, puts, reopened, locals, hops, handed);
-    return opened >= LEAST && at_first >= LEAST && longest >= LEAST_LONGEST && reopened >= LEAST;
+    printf("order: %" PRIu64 " histories equal to their right-round ones, %" PRIu64 " of them from an opening, %" PRIu64
+           " of these of an old save, with %" PRIu64 " frames in the links, %" PRIu64 " of %d devices; %" PRIu64
+           " frames put, %" PRIu64 " times saved and opened, %" PRIu64 " accepted local calls, %" PRIu64 " hops, %"
+           PRIu64 " bytes handed\n", histories, opened, old, at_first, longest, PIL_MOST_DEVICES, puts, reopened,
+           locals, hops, handed);
+    return opened >= LEAST && old >= LEAST && at_first >= LEAST && longest >= LEAST_LONGEST && reopened >= LEAST;
 }

@@ -14,8 +14,8 @@
 #include <stdint.h>
 
 /* The version: the first number rises where a bench has to be changed, the second where something is added. */
-#define PIL_VERSION_MAJOR 2
-#define PIL_VERSION_MINOR 3
+#define PIL_VERSION_MAJOR 3
+#define PIL_VERSION_MINOR 0
 #define PIL_VERSION_PATCH 0
 #define PIL_VERSION (PIL_VERSION_MAJOR * 10000 + PIL_VERSION_MINOR * 100 + PIL_VERSION_PATCH)
 
@@ -31,7 +31,8 @@ enum {
                            as where it was not set up or opened yet; at set-up items, at saving an output of another
                            length; at opening an area of another length than the saved loop's */
     PIL_UNSOUND = 2,    /* the area's contents break a rule of "What is sound" below; at set-up an item does, at opening
-                           the saved contents do */
+                           the saved contents do; a load's choice is not 0 or 1; a record has a choice in a save made
+                           before version 3 */
     PIL_NO_DEVICE = 3,  /* the device number is the number of devices or more */
     PIL_BAD_FRAME = 4,  /* a frame over 2,047; a kind or offset outside the message table, a C1 that is not 0 or 1, or a
                            C1 of 1 on a kind without one */
@@ -42,7 +43,8 @@ enum {
     PIL_TOO_LONG = 8,   /* a load of more than 32 bytes */
     PIL_BUSY = 9,       /* a load while the device is sending data (talker state 2) */
     PIL_BAD_SAVE = 10   /* at opening, no save: a body of a wrong kind, at a wrong place or of a wrong length, bytes
-                           missing at the end or left over, or a number of devices that no loop has */
+                           missing at the end or left over, a number of devices that no loop has, or an edition that is
+                           not 0 or 1 */
 };
 
 /* Why a drain stopped. A refused drain answers 0 here as well: look at its refusal first. */
@@ -135,7 +137,8 @@ enum {
 #define PIL_ITEMS_LENGTH(n) (PIL_ITEM_LENGTH * (size_t)(n))
 #define PIL_ITEM_AT(i) (PIL_ITEM_LENGTH * (size_t)(i))
 
-/* The save of n devices: header, n records and n + 1 links as they stand in the area, each a body behind a head. */
+/* The save of n devices: header, n records and n + 1 links as they stand in the area, each a body behind a head; but
+   in the header's byte 1, zero in the area, a save tells its edition. */
 #define PIL_SAVE_LENGTH(n) PIL_SAVE_LINK_AT(n, (size_t)(n) + 1)
 /* Where the head of device i's record begins in a save, and that of link i of n devices. The header's is at 0. */
 #define PIL_SAVE_RECORD_AT(i) \
@@ -188,7 +191,9 @@ enum {
     PIL_RECORD_SENT = 13,        /* bytes of the data already sent, a damaged one among them */
     PIL_RECORD_LAST = 14,        /* while sending, the reply's last byte as the frame sent: two bytes, little-endian */
     PIL_RECORD_REPLY_SENT = 16,  /* bytes of a status or ID reply already sent */
-    PIL_RECORD_ZEROS = 17,       /* seven zero bytes */
+    PIL_RECORD_ZEROS = 17,       /* two zero bytes */
+    PIL_RECORD_END = 19,         /* how the last byte of the data goes out: 0 plain, 1 END */
+    PIL_RECORD_MORE_ZEROS = 20,  /* four zero bytes */
     PIL_RECORD_ID = 24,          /* eight bytes: the device ID, zero past its length */
     PIL_RECORD_DATA = 32         /* thirty-two bytes: the data, zero past its length */
 };
@@ -204,6 +209,13 @@ enum {
 enum {
     PIL_SAVE_BODY_LENGTH = 0, /* the body's length: four bytes, little-endian */
     PIL_SAVE_KIND = 4         /* the body's kind: two bytes, little-endian */
+};
+
+/* The edition of a save, which tells how it was written. */
+enum {
+    PIL_SAVE_EDITION = PIL_SAVE_HEAD_LENGTH + 1, /* its place in a save: the header's byte 1 */
+    PIL_EDITION_OLD = 0, /* before version 3: no record has a choice, and all data ended in an END */
+    PIL_EDITION_NOW = 1  /* since then */
 };
 
 /* Kinds of a save's bodies. */
@@ -230,6 +242,12 @@ enum {
     PIL_SERVICE_POLLED = 2  /* has sent its status since it asked */
 };
 
+/* How the last byte of the data goes out: a load's choice, and a record's byte 19. */
+enum {
+    PIL_LAST_PLAIN = 0, /* as a DAB, like the bytes before it */
+    PIL_LAST_END = 1    /* as an END */
+};
+
 /* What is sound. An area whose length and byte 0 fit is refused with 2 where
    - a value is outside the range given for it above, a zero byte or a byte past a length is not zero, or an unused
      place of a link is not zero;
@@ -242,6 +260,7 @@ enum {
    - the reply bytes sent are not 1 while status or accessory ID is sent, not 1 to the ID's length while the ID is sent,
      or not 0 otherwise;
    - NRD is noted, or a last frame kept, outside the talker states 2 to 5.
+   Either choice for the last byte is sound in every record, also where there is no data or no ability for it.
    So damage that breaks a rule gives 2, and any change of byte 0 gives 1: no other count of devices fits the area's
    length. Damage that leaves a sound area is not seen. A record is judged by itself, so that one copied from another
    sound area may take a device's place (example.c exchanges a meter so).
@@ -308,10 +327,14 @@ uint8_t pil_put(uint8_t *area, size_t area_len, uint64_t frame);
 struct pil_hopped pil_hop(uint8_t *area, size_t area_len, uint64_t device);
 /* Takes the oldest frame out of the tail. Gives 1, 2, 5. */
 struct pil_taken pil_take(uint8_t *area, size_t area_len);
-/* Gives the device new data to send, none of it sent yet; with no bytes the device has nothing to send. Refused while
-   it sends data: its talk has to end first (by ETO or ETE, UNT, IFC, any TAD or, with unaddress, its own LAD). Gives 1,
-   2, 3, 7, 8, 9. */
-uint8_t pil_load(uint8_t *area, size_t area_len, uint64_t device, const uint8_t *bytes, size_t bytes_len);
+/* Gives the device new data to send, none of it sent yet; with no bytes the device has nothing to send. The choice end
+   says how the last byte goes out, PIL_LAST_PLAIN or PIL_LAST_END, and is kept in the record, with no bytes too; any
+   other number gives 2. Refused while it sends data: its talk has to end first (by ETO or ETE, UNT, IFC, any TAD or,
+   with unaddress, its own LAD). Before version 3 there was no choice, and the last byte was an END: a bench of that
+   time calls pil_load_end. Gives 1, 2, 3, 7, 8, 9. */
+uint8_t pil_load(uint8_t *area, size_t area_len, uint64_t device, const uint8_t *bytes, size_t bytes_len, uint64_t end);
+/* pil_load with PIL_LAST_END, as for a printer that waits for the end bit. Gives 1, 2, 3, 7, 8, 9. */
+uint8_t pil_load_end(uint8_t *area, size_t area_len, uint64_t device, const uint8_t *bytes, size_t bytes_len);
 /* Sets the device's status byte. A wish for service sets no bit of it: that is the bench's. Gives 1, 2, 3, 7. */
 uint8_t pil_status(uint8_t *area, size_t area_len, uint64_t device, uint8_t status);
 /* Has the device ask for service (any wish but 0), or no longer (0). Any wish but 0 leaves a device that asks already,
@@ -331,12 +354,14 @@ struct pil_drained pil_drain(uint8_t *area, size_t area_len, uint64_t budget);
 struct pil_owing pil_owed(const uint8_t *area, size_t area_len);
 /* Writes the loop into the output as its save, over whatever that held, and leaves the area as it was. The output's
    length is PIL_SAVE_LENGTH(n) for n devices, no more and no less; any other gives 1, where the area is unsound too. A
-   sound area has one save, and no other has the same. Refused, it leaves the output as it was. Gives 1, 2. */
+   sound area has one save, of the edition now, and no other has the same. Refused, it leaves the output as it was.
+   Gives 1, 2. */
 uint8_t pil_save(const uint8_t *area, size_t area_len, uint8_t *save, size_t save_len);
 /* Writes the saved loop into the area, whatever that held: every byte of it is then that of the area saved, and the
    frames in its links go on from where they were. The area's length is PIL_AREA_LENGTH(n) for the saved number of
-   devices, which is save[PIL_SAVE_HEAD_LENGTH] (in a save of any length above that). Leaves the save as it was and,
-   refused, the area too. Gives 10, then 1, then 2. */
+   devices, which is save[PIL_SAVE_HEAD_LENGTH] (in a save of any length above that). A save made before version 3
+   (PIL_EDITION_OLD) opens too: each device with data gets PIL_LAST_END, as its data ended then, and saved again it is a
+   new save. Leaves the save as it was and, refused, the area too. Gives 10, then 1, then 2. */
 uint8_t pil_open(uint8_t *area, size_t area_len, const uint8_t *save, size_t save_len);
 /* The kind of a frame, 0 where it is no message, its offset in the kind, and C1. Gives 4. */
 struct pil_decoded pil_decode(uint64_t frame);

@@ -54,7 +54,7 @@ static const char *const pil_kind_names[43] = {
 static const char *const pil_refusal_texts[11] = {
     "accepted",
     "shape: lengths do not fit, or no set-up yet",
-    "unsound: the area or an item breaks a rule",
+    "unsound: the area, an item or a choice breaks a rule",
     "no device: its number is too high",
     "bad frame: no such frame, kind, offset or C1",
     "empty: no frame to take",

@@ -1,5 +1,6 @@
-/* Puts loops away in a file and opens them again, and tries to open what is no save, through libpil.a as a bench calls
-   it. Use: saves FILE, which is written and removed. Prints one line of counts; exit 1: a difference, 3: wrong use. */
+/* Puts loops away in a file and opens them again, opens old saves, and tries to open what is no save, through libpil.a
+   as a bench calls it. Use: saves FILE OLD; FILE is written and removed, OLD is old_save.bin. Prints a line of counts;
+   exit 1: a difference, 3: wrong use. */
 #include "pil.h"
 
 #include <stdio.h>
@@ -10,7 +11,8 @@ enum {
     AREA_ROOM = PIL_AREA_LENGTH(PIL_MOST_DEVICES),
     SAVE_ROOM = PIL_SAVE_LENGTH(PIL_MOST_DEVICES) + 1, /* a byte more than the longest */
     COUNT_AT = PIL_SAVE_HEAD_LENGTH + PIL_HEADER_DEVICES,
-    OTHER_VALUES = 255 /* that a byte could have */
+    OTHER_VALUES = 255, /* that a byte could have */
+    NO_EDITIONS = 254   /* of its values are no edition */
 };
 
 static unsigned devices;
@@ -18,7 +20,7 @@ static uint8_t area[AREA_ROOM], in_hand[AREA_ROOM]; /* the loop saved, and the l
 static uint8_t lent[AREA_ROOM], tried[SAVE_ROOM];   /* what openings are lent */
 static uint8_t save[SAVE_ROOM];
 static size_t area_len, save_len;
-static struct { unsigned long frames, bytes, cuts, longer, heads, counts; } done; /* what was tried */
+static struct { unsigned long frames, bytes, cuts, longer, heads, counts, editions, chosen, choices; } done; /* tried */
 
 static void must(int holds, const char *what, size_t place)
 {
@@ -40,14 +42,21 @@ static void set_up(uint8_t *loop)
     must(pil_set_up(loop, area_len, items, PIL_ITEMS_LENGTH(devices)) == PIL_ACCEPTED, "the set-up is refused", 0);
 }
 
-/* Puts frames and lets every device hop, till each link holds some and the tail is full. */
+static void load(unsigned device, uint64_t end)
+{
+    must(pil_load(area, area_len, device, (const uint8_t *)"12", 2, end) == PIL_ACCEPTED, "the load is refused", 0);
+}
+
+/* Puts frames and lets every device hop, till each link holds some and the tail is full. The last device has data that
+   ends plain, the first, which talks, data that ends in an END. */
 static void make_loop(void)
 {
     static const uint16_t frames[] = {0x581, 0x441, 0x560, 0x031, 0x422, 0x232, 0x700};
     unsigned put = 0;
 
     set_up(area);
-    must(pil_load(area, area_len, 0, (const uint8_t *)"12", 2) == PIL_ACCEPTED, "the load is refused", 0);
+    load(devices - 1, PIL_LAST_PLAIN);
+    load(0, PIL_LAST_END);
     while (area[PIL_LINK_AT(devices, devices) + PIL_LINK_COUNT] < PIL_LINK_DEPTH) {
         must(pil_put(area, area_len, frames[put++ % 7]) == PIL_ACCEPTED, "a put is refused", 0);
         for (unsigned device = devices; device-- > 0;)
@@ -69,15 +78,16 @@ static void write_file(const char *path)
     must(file && fwrite(save, 1, save_len, file) == save_len && fclose(file) == 0, "the file cannot be written", 0);
 }
 
-/* What the file holds, with room for a byte too many, and removes it. */
+/* What the file holds, with room for a byte too many. */
 static size_t read_file(const char *path)
 {
     FILE *file = fopen(path, "rb");
     size_t length;
 
     must(file != NULL, "the file cannot be read", 0);
+    memset(tried, 0, sizeof tried);
     length = fread(tried, 1, sizeof tried, file);
-    must(fclose(file) == 0 && remove(path) == 0, "the file cannot be removed", 0);
+    must(fclose(file) == 0, "the file cannot be closed", 0);
     return length;
 }
 
@@ -91,9 +101,9 @@ static void through_file(const char *path)
     must(pil_save(area, area_len, save, save_len) == PIL_ACCEPTED, "the saving is refused", 0);
     must(memcmp(area, before, area_len) == 0, "the saving alters the area", 0);
     write_file(path);
-    memset(tried, 0, sizeof tried);
     length = read_file(path);
     must(length == save_len, "the file has another length", length);
+    must(remove(path) == 0, "the file cannot be removed", 0);
     memcpy(lent, in_hand, area_len);
     must(memcmp(lent, area, area_len) != 0, "the loop in hand is the saved one", 0);
     must(pil_open(lent, area_len, tried, length) == PIL_ACCEPTED, "the opening is refused", 0);
@@ -102,24 +112,29 @@ static void through_file(const char *path)
     done.bytes += length;
 }
 
-/* The first length bytes of tried are no save; neither they nor the loop in hand change. */
-static void refused(size_t length, size_t place, const char *what)
+/* The first length bytes of tried are refused; neither they nor the loop in hand change. */
+static void refused_with(uint8_t refusal, size_t length, size_t place, const char *what)
 {
     static uint8_t before[SAVE_ROOM];
 
     memcpy(before, tried, sizeof tried);
     memcpy(lent, in_hand, area_len);
-    must(pil_open(lent, area_len, tried, length) == PIL_BAD_SAVE, what, place);
+    must(pil_open(lent, area_len, tried, length) == refusal, what, place);
     must(memcmp(lent, in_hand, area_len) == 0, "a refused opening alters the area", place);
     must(memcmp(tried, before, sizeof tried) == 0, "a refused opening alters the save", place);
 }
 
-/* Every other value of the byte; gives how many there were. */
-static unsigned other_values(size_t place, const char *what)
+static void refused(size_t length, size_t place, const char *what)
+{
+    refused_with(PIL_BAD_SAVE, length, place, what);
+}
+
+/* Every other value of the byte from the first on; gives how many there were. */
+static unsigned other_values_from(unsigned first, size_t place, const char *what)
 {
     unsigned values = 0;
 
-    for (unsigned value = 0; value <= UINT8_MAX; value++)
+    for (unsigned value = first; value <= UINT8_MAX; value++)
         if (value != save[place]) {
             tried[place] = (uint8_t)value;
             refused(save_len, place, what);
@@ -127,6 +142,11 @@ static unsigned other_values(size_t place, const char *what)
         }
     tried[place] = save[place];
     return values;
+}
+
+static unsigned other_values(size_t place, const char *what)
+{
+    return other_values_from(0, place, what);
 }
 
 /* From head to head by the lengths of the bodies, all of them below 256. */
@@ -150,32 +170,155 @@ static void no_saves(void)
     done.longer++;
     other_heads();
     done.counts += other_values(COUNT_AT, "a save with another number of devices is opened");
+    done.editions += other_values_from(PIL_EDITION_NOW + 1, PIL_SAVE_EDITION, "a save of no edition is opened");
+}
+
+/* Old saves (02, h). */
+
+/* The place of a device's choice in a save. */
+static size_t choice_at(unsigned device)
+{
+    return PIL_SAVE_RECORD_AT(device) + PIL_SAVE_HEAD_LENGTH + PIL_RECORD_END;
+}
+
+/* Whether the area's bytes are the bodies of what was tried. */
+static int is_held_by_tried(const uint8_t *loop)
+{
+    size_t at = 0, head = 0;
+
+    while (at < area_len) {
+        size_t length = tried[head + PIL_SAVE_BODY_LENGTH];
+
+        if (memcmp(loop + at, tried + head + PIL_SAVE_HEAD_LENGTH, length) != 0)
+            return 0;
+        at += length;
+        head += PIL_SAVE_HEAD_LENGTH + length;
+    }
+    return head == save_len;
+}
+
+/* Chooses END in what was tried, for each device with data, and gives how many these are. */
+static unsigned choose_end(void)
+{
+    unsigned with_data = 0;
+
+    for (unsigned i = 0; i < devices; i++)
+        if (tried[choice_at(i) - PIL_RECORD_END + PIL_RECORD_DATA_LENGTH] > 0) {
+            tried[choice_at(i)] = PIL_LAST_END;
+            with_data++;
+        }
+    return with_data;
+}
+
+/* Opens the old save in tried: the area has its bytes, but END is chosen by each device with data. Saved again, that is
+   all that differs, and the edition. */
+static void opened_as_new(void)
+{
+    memcpy(lent, in_hand, area_len);
+    memcpy(save, tried, sizeof save);
+    must(tried[PIL_SAVE_EDITION] == PIL_EDITION_OLD, "the old save is of another edition", PIL_SAVE_EDITION);
+    must(pil_open(lent, area_len, tried, save_len) == PIL_ACCEPTED, "the old save is refused", 0);
+    must(memcmp(tried, save, sizeof save) == 0, "the opening alters the old save", 0);
+    done.chosen += choose_end();
+    must(is_held_by_tried(lent), "the opened old save is another area", 0);
+    tried[PIL_SAVE_EDITION] = PIL_EDITION_NOW;
+    must(pil_save(lent, area_len, save, save_len) == PIL_ACCEPTED, "the opened old save is not saved", 0);
+    must(memcmp(save, tried, save_len) == 0, "the opened old save is not saved as a new one", 0);
+}
+
+/* The loop's save as it was written before loads took a choice; with a choice in any device it is refused with 2. */
+static void old_save(void)
+{
+    memcpy(tried, save, sizeof tried);
+    tried[PIL_SAVE_EDITION] = PIL_EDITION_OLD;
+    for (unsigned i = 0; i < devices; i++)
+        tried[choice_at(i)] = 0;
+    for (unsigned i = 0; i < devices; i++, done.choices++) {
+        tried[choice_at(i)] = PIL_LAST_END;
+        refused_with(PIL_UNSOUND, save_len, choice_at(i), "an old save with a choice is not refused with 2");
+        tried[choice_at(i)] = 0;
+    }
+    opened_as_new();
+}
+
+/* old_save.bin, written by version 2.3.0: device 0 listens; 1 sends "1.503 V", two bytes of it are out; 2 is idle and
+   has "72.0"; 3 can send data and has none; 4 asks for service and has an ID; a frame in links 0, 1, 3 and the tail. */
+enum { OLD_DEVICES = 5, OLD_WITH_DATA = 2 };
+
+/* The frames that came out of it at that time, each data byte put in again. Device 4 sets C1. */
+static const uint16_t old_talk[] = {0x700, 0x12e, 0x700, 0x400, 0x135, 0x130, 0x133, 0x120, 0x356, 0x540};
+
+/* Lets all frames hop on to the tail, and takes the oldest out. */
+static unsigned next_out(void)
+{
+    struct pil_taken out;
+
+    while (pil_drain(lent, area_len, UINT64_MAX).reason == PIL_STOP_HANDED)
+        ;
+    out = pil_take(lent, area_len);
+    must(out.refusal == PIL_ACCEPTED, "no frame comes out of the old save", 0);
+    return out.frame;
+}
+
+/* The talk that was under way goes on in lent as it would have, to an END. */
+static void old_talk_goes_on(void)
+{
+    for (size_t i = 0; i < sizeof old_talk / sizeof *old_talk; i++) {
+        unsigned frame = next_out();
+
+        must(frame == old_talk[i], "another frame comes out of the old save", i);
+        if (frame < PIL_C3)
+            must(pil_put(lent, area_len, frame) == PIL_ACCEPTED, "a put into the old save is refused", i);
+    }
+    must(pil_take(lent, area_len).refusal == PIL_EMPTY, "more frames come out of the old save", 0);
+}
+
+static void begin(unsigned count)
+{
+    devices = count;
+    area_len = PIL_AREA_LENGTH(devices);
+    save_len = PIL_SAVE_LENGTH(devices);
+    set_up(in_hand);
+}
+
+static void old_file(const char *path)
+{
+    unsigned long chosen = done.chosen;
+
+    begin(OLD_DEVICES);
+    must(read_file(path) == save_len, "the old save's file has another length", 0);
+    opened_as_new();
+    must(done.chosen == chosen + OLD_WITH_DATA, "another number of devices of the old save have data", 0);
+    old_talk_goes_on();
 }
 
 int main(int argc, char **argv)
 {
     static const unsigned all[] = {1, 2, 7, PIL_MOST_DEVICES};
-    unsigned long bytes = 0, heads = 0, loops = sizeof all / sizeof *all;
+    unsigned long bytes = 0, heads = 0, choices = 0, loops = sizeof all / sizeof *all;
 
-    if (argc != 2) {
-        fprintf(stderr, "use: saves FILE\n");
+    if (argc != 3) {
+        fprintf(stderr, "use: saves FILE OLD\n");
         return 3;
     }
     for (unsigned i = 0; i < loops; i++) {
-        devices = all[i];
-        area_len = PIL_AREA_LENGTH(devices);
-        save_len = PIL_SAVE_LENGTH(devices);
-        set_up(in_hand);
+        begin(all[i]);
         make_loop();
         through_file(argv[1]);
         no_saves();
+        old_save();
         bytes += 30 + 86 * devices;
         heads += 2 * devices + 2;
+        choices += devices;
     }
+    old_file(argv[2]);
     must(done.bytes == bytes && done.cuts == bytes && done.longer == loops && done.counts == loops * OTHER_VALUES
-         && done.heads == heads * PIL_SAVE_HEAD_LENGTH * OTHER_VALUES, "not all was tried", 0);
+         && done.heads == heads * PIL_SAVE_HEAD_LENGTH * OTHER_VALUES && done.editions == loops * NO_EDITIONS
+         && done.choices == choices, "not all was tried", 0);
     printf("saves: %lu loops with %lu frames through a file of %lu bytes in all; refused with 10: %lu cut, %lu longer, "
-           "%lu with another byte in a head, %lu with another count\n", loops, done.frames, done.bytes, done.cuts,
-           done.longer, done.heads, done.counts);
+           "%lu with another byte in a head, %lu with another count, %lu of no edition; %lu old saves opened and one "
+           "from a file, END chosen for %lu devices in all; refused with 2: %lu old saves with a choice\n", loops,
+           done.frames, done.bytes, done.cuts, done.longer, done.heads, done.counts, done.editions, loops, done.chosen,
+           done.choices);
     return 0;
 }

@@ -1,5 +1,6 @@
-/* Runs the rows of 01 and 02, 01's cases at the limits, hops owed, a saved loop and codes of 001's message table
-   through libpil.a, called as a bench calls it. Prints each check that fails and exits 1, or how many held. */
+/* Runs the rows of 01 and 02, 01's cases at the limits, the choices of a load, hops owed, a saved loop, as it is saved
+   now and as it was before, and codes of 001's message table through libpil.a, called as a bench calls it. Prints each
+   check that fails and exits 1, or how many held. */
 #include "pil.h"
 
 #include <stdio.h>
@@ -45,10 +46,15 @@ static void at_5(void)
     check("address", record[PIL_RECORD_ADDRESS], 5);
 }
 
-static void talker_at_5(const char *data)
+static unsigned load(const char *data, uint64_t end)
+{
+    return pil_load(area, sizeof area, 0, (const uint8_t *)data, strlen(data), end);
+}
+
+static void talker_at_5(const char *data, uint64_t end)
 {
     at_5();
-    check("load", pil_load(area, sizeof area, 0, (const uint8_t *)data, strlen(data)), PIL_ACCEPTED);
+    check("load", load(data, end), PIL_ACCEPTED);
     check("445 at 5", sends(0x445), 0x445);
     check("talker", record[PIL_RECORD_TALKER], PIL_TALKER_ADDRESSED);
 }
@@ -63,42 +69,73 @@ static void address_rows(void)
     at_5();
     check("row 3", sends(0x581), 0x581);
     check("row 3, address", record[PIL_RECORD_ADDRESS], 5);
-    talker_at_5("");
+    talker_at_5("", PIL_LAST_PLAIN);
     check("row 4", sends(0x446), 0x446);
     check("row 4, talker", record[PIL_RECORD_TALKER], PIL_TALKER_IDLE);
 }
 
 static void data_rows(void)
 {
-    talker_at_5("\x41\x42");
+    talker_at_5("\x41\x42", PIL_LAST_END);
     check("row 5", sends(0x560), 0x041);
     check("row 5, talker", record[PIL_RECORD_TALKER], PIL_TALKER_DATA);
     check("row 6", sends(0x041), 0x242);
     check("row 7", sends(0x242), 0x540);
     check("row 7, talker", record[PIL_RECORD_TALKER], PIL_TALKER_ADDRESSED);
-    talker_at_5("\x41\x42");
+    talker_at_5("\x41\x42", PIL_LAST_END);
     sends(0x560);
     check("row 8", sends(0x043), 0x541);
-    talker_at_5("\x41\x42");
+    talker_at_5("\x41\x42", PIL_LAST_END);
     sends(0x560);
     check("row 9", sends(0x141), 0x242);
-    talker_at_5("\x41\x42");
+    talker_at_5("\x41\x42", PIL_LAST_END);
     sends(0x560);
     check("row 10, 542", sends(0x542), 0x542);
     check("row 10, 041", sends(0x041), 0x540);
     check("row 10, 560", sends(0x560), 0x242);
-    talker_at_5("\x41\x42");
+    talker_at_5("\x41\x42", PIL_LAST_END);
     sends(0x560);
     sends(0x041);
     check("row 13", sends(0x042), 0x541);
     check("row 13, talker", record[PIL_RECORD_TALKER], PIL_TALKER_ADDRESSED);
-    talker_at_5("");
+    talker_at_5("\x41\x42", PIL_LAST_PLAIN);
+    check("row 14, 560", sends(0x560), 0x041);
+    check("row 14, 041", sends(0x041), 0x042);
+    check("row 14, 042", sends(0x042), 0x540);
+    check("row 14, talker", record[PIL_RECORD_TALKER], PIL_TALKER_ADDRESSED);
+    talker_at_5("", PIL_LAST_PLAIN);
     check("560 with no data", sends(0x560), 0x540);
+}
+
+/* A load stores its choice, one of no bytes too, a refused one nothing; a wrong choice is 2, after 1 and before 3. */
+static void choice_cases(void)
+{
+    static const uint64_t wrong[] = {2, 255, 256, 257, (uint64_t)1 << 32, (uint64_t)1 << 63, UINT64_MAX};
+    static uint8_t loaded[sizeof area];
+
+    fresh();
+    check("power-on, choice", record[PIL_RECORD_END], PIL_LAST_PLAIN);
+    check("load of no bytes, END", load("", PIL_LAST_END), PIL_ACCEPTED);
+    check("load of no bytes, choice", record[PIL_RECORD_END], PIL_LAST_END);
+    check("load, plain", load("\x41", PIL_LAST_PLAIN), PIL_ACCEPTED);
+    check("load, choice", record[PIL_RECORD_END], PIL_LAST_PLAIN);
+    memcpy(loaded, area, sizeof area);
+    for (unsigned i = 0; i < sizeof wrong / sizeof *wrong; i++)
+        check("load, a wrong choice", load("\x42", wrong[i]), PIL_UNSOUND);
+    check("load, a wrong choice and a wrong length", pil_load(area, sizeof area - 1, 0, loaded, 1, 2), PIL_SHAPE);
+    check("load, a wrong choice and device 1", pil_load(area, sizeof area, 1, loaded, 1, 2), PIL_UNSOUND);
+    check("load, device 1", pil_load(area, sizeof area, 1, loaded, 1, PIL_LAST_END), PIL_NO_DEVICE);
+    check("load refused, the area", memcmp(area, loaded, sizeof area), 0);
+    check("load_end", pil_load_end(area, sizeof area, 0, loaded, 1), PIL_ACCEPTED);
+    check("load_end, choice", record[PIL_RECORD_END], PIL_LAST_END);
+    check("load_end, device 1", pil_load_end(area, sizeof area, 1, loaded, 1), PIL_NO_DEVICE);
+    record[PIL_RECORD_END] = 2;
+    check("choice 2 in a record", pil_put(area, sizeof area, 0), PIL_UNSOUND);
 }
 
 static void service_rows(void)
 {
-    talker_at_5("");
+    talker_at_5("", PIL_LAST_PLAIN);
     check("status", pil_status(area, sizeof area, 0, 0x20), PIL_ACCEPTED);
     check("wish", pil_wish(area, sizeof area, 0, 1), PIL_ACCEPTED);
     check("row 12, service 1", sends(0x600), 0x700);
@@ -123,8 +160,9 @@ static void limits(void)
     pil_put(area, sizeof area, 0);
     check("fourth frame", pil_put(area, sizeof area, 0), PIL_ACCEPTED);
     check("fifth frame", pil_put(area, sizeof area, 0), PIL_FULL);
-    check("load 32", pil_load(area, sizeof area, 0, bytes, 32), PIL_ACCEPTED);
-    check("load 33", pil_load(area, sizeof area, 0, bytes, 33), PIL_TOO_LONG);
+    check("load 32", pil_load(area, sizeof area, 0, bytes, 32, PIL_LAST_PLAIN), PIL_ACCEPTED);
+    check("load 33", pil_load(area, sizeof area, 0, bytes, 33, PIL_LAST_PLAIN), PIL_TOO_LONG);
+    check("load_end 33", pil_load_end(area, sizeof area, 0, bytes, 33), PIL_TOO_LONG);
     check("31 devices", pil_set_up(longest, PIL_AREA_LENGTH(31), items, PIL_ITEMS_LENGTH(31)), PIL_ACCEPTED);
     check("32 devices", pil_set_up(longest, PIL_AREA_LENGTH(32), items, PIL_ITEMS_LENGTH(32)), PIL_SHAPE);
 }
@@ -160,17 +198,19 @@ static void owed_cases(void)
     owes("owed, a damaged byte", area, sizeof area, PIL_UNSOUND, 0);
 }
 
-/* The one device's save: at 5, sending the first of its bytes 41 42, a TAD behind that byte and a UNL before it. */
+/* The one device's save: at 5, sending the first of its bytes 41 42, a TAD behind that byte and a UNL before it. The
+   header's byte 1 is the edition, the record's byte 19 the choice of END. */
 static const uint8_t expected_save[116] = {
-    8, 0, 0, 0, 1, 0, 1, 0, 0, 0, 0, 0, 0, 0,
-    64, 0, 0, 0, 2, 0, 0xff, 31, 5, 1, 0, 2, 0, 0, 0, 0, 0, 0, 2, 1, 0x41, 0, [14 + 6 + 32] = 0x41, 0x42,
+    8, 0, 0, 0, 1, 0, 1, 1, 0, 0, 0, 0, 0, 0,
+    64, 0, 0, 0, 2, 0, 0xff, 31, 5, 1, 0, 2, 0, 0, 0, 0, 0, 0, 2, 1, 0x41, 0, [14 + 6 + 19] = 1,
+    [14 + 6 + 32] = 0x41, 0x42,
     [84] = 10, 0, 0, 0, 3, 0, 1, 0, 0x46, 0x04, 0, 0, 0, 0, 0, 0,
     10, 0, 0, 0, 3, 0, 2, 0, 0x3f, 0x04, 0x41, 0, 0, 0, 0, 0
 };
 
 static void saved_loop(void)
 {
-    talker_at_5("\x41\x42");
+    talker_at_5("\x41\x42", PIL_LAST_END);
     check("put UNL", pil_put(area, sizeof area, 0x43f), PIL_ACCEPTED);
     check("put SDA", pil_put(area, sizeof area, 0x560), PIL_ACCEPTED);
     check("drain", pil_drain(area, sizeof area, 2).hops, 2);
@@ -226,13 +266,41 @@ static void open_cases(void)
     check("open, no save and a wrong length", opens_with(6, 2, sizeof area - 1, 116), PIL_BAD_SAVE);
     check("open, a wrong length", opens_with(0, 8, sizeof area - 1, 116), PIL_SHAPE);
     check("open, a wrong length and header byte 7", opens_with(6 + 7, 1, sizeof area - 1, 116), PIL_SHAPE);
-    check("open, header byte 1", opens_with(6 + 1, 1, sizeof area, 116), PIL_UNSOUND);
+    check("open, edition 2", opens_with(PIL_SAVE_EDITION, 2, sizeof area, 116), PIL_BAD_SAVE);
+    check("open, edition 2 and a wrong length", opens_with(PIL_SAVE_EDITION, 2, sizeof area - 1, 116), PIL_BAD_SAVE);
+    check("open, header byte 2", opens_with(6 + 2, 1, sizeof area, 116), PIL_UNSOUND);
+    check("open, choice 2", opens_with(14 + 6 + 19, 2, sizeof area, 116), PIL_UNSOUND);
+    check("open, an old save with a choice", opens_with(PIL_SAVE_EDITION, 0, sizeof area, 116), PIL_UNSOUND);
     check("open, a listener over 1", opens_with(14 + 6 + 4, 2, sizeof area, 116), PIL_UNSOUND);
     check("open refused, the area", memcmp(area, fresh_area, sizeof area), 0);
     memset(area, 0xa5, sizeof area);
     check("open", opens_with(0, 8, sizeof area, 116), PIL_ACCEPTED);
     check("open, its area", memcmp(area, saved, sizeof area), 0);
     owes("open, hops owed", area, sizeof area, PIL_ACCEPTED, 1);
+}
+
+/* The same save as it was written before loads took a choice: it opens to the same area, with END chosen. A device
+   without data has none chosen. */
+static void old_save_cases(void)
+{
+    static uint8_t saved[sizeof area];
+    uint8_t save[sizeof expected_save];
+
+    saved_loop();
+    memcpy(saved, area, sizeof area);
+    memcpy(save, expected_save, sizeof save);
+    save[PIL_SAVE_EDITION] = 0;
+    save[14 + 6 + 19] = 0;
+    fresh();
+    check("open, an old save", pil_open(area, sizeof area, save, sizeof save), PIL_ACCEPTED);
+    check("open, an old save's area", memcmp(area, saved, sizeof area), 0);
+    fresh();
+    memcpy(saved, area, sizeof area);
+    check("save", pil_save(area, sizeof area, save, sizeof save), PIL_ACCEPTED);
+    check("save, edition", save[PIL_SAVE_EDITION], PIL_EDITION_NOW);
+    save[PIL_SAVE_EDITION] = 0;
+    check("open, an old save without data", pil_open(area, sizeof area, save, sizeof save), PIL_ACCEPTED);
+    check("open, an old save without data, its area", memcmp(area, saved, sizeof area), 0);
 }
 
 static void decodes(const char *what, uint64_t frame, unsigned kind, unsigned offset, unsigned c1)
@@ -289,11 +357,13 @@ int main(void)
 {
     address_rows();
     data_rows();
+    choice_cases();
     service_rows();
     limits();
     owed_cases();
     save_cases();
     open_cases();
+    old_save_cases();
     codes();
     if (failed)
         return 1;

@@ -1,4 +1,5 @@
-/* Saves spoilt at random, part by part: a part is a head with its body. The save given is well-formed (02, a). */
+/* Saves spoilt at random, part by part: a part is a head with its body; and old saves made of new ones, and new ones of
+   old ones. The save given is well-formed (02, a and h). */
 #include "spoil.h"
 
 #include "chance.h"
@@ -113,6 +114,14 @@ static void refuse_count(struct save *s)
         append_part(s, &old, 1 + saved_devices(&old));
 }
 
+/* Mostly the first number that is no edition. */
+static void change_edition(struct save *s)
+{
+    unsigned first = PIL_EDITION_NOW + 1;
+
+    s->bytes[PIL_SAVE_EDITION] = (uint8_t)(one_in(2) ? first : first + below(UINT8_MAX + 1 - first));
+}
+
 void spoil_form(struct save *s, enum spoilt how)
 {
     switch (how) {
@@ -121,23 +130,26 @@ void spoil_form(struct save *s, enum spoilt how)
     case HEAD_CHANGED: change_head(s); break;
     case OUT_OF_ORDER: change_order(s); break;
     case COUNT_CHANGED: change_count(s); break;
-    default: refuse_count(s);
+    case COUNT_REFUSED: refuse_count(s); break;
+    default: change_edition(s);
     }
 }
 
 /* The contents. */
 
-/* A byte of a body, but not the number of devices: that belongs to the form. */
+/* A byte of a body, but not the number of devices or the edition: these belong to the form. */
 static size_t contents_place(unsigned devices)
 {
     size_t record = PIL_SAVE_RECORD_AT(below(devices)) + PIL_SAVE_HEAD_LENGTH;
     size_t link = PIL_SAVE_LINK_AT(devices, below(devices + 1)) + PIL_SAVE_HEAD_LENGTH;
+    size_t zeros = PIL_SAVE_EDITION + 1;
 
-    switch (below(5)) {
-    case 0: return PIL_SAVE_HEAD_LENGTH + PIL_HEADER_ZEROS + below(PIL_HEADER_LENGTH - PIL_HEADER_ZEROS);
+    switch (below(6)) {
+    case 0: return zeros + below((unsigned)(PIL_SAVE_HEAD_LENGTH + PIL_HEADER_LENGTH - zeros));
     case 1: return link + below(PIL_LINK_LENGTH);
     case 2: return record + below(PIL_RECORD_LENGTH);
-    default: return record + below(PIL_RECORD_ZEROS + 1);
+    case 3: return record + PIL_RECORD_END;
+    default: return record + below(PIL_RECORD_MORE_ZEROS + 1);
     }
 }
 
@@ -155,4 +167,26 @@ void spoil_contents(struct save *s)
 
         s->bytes[place] = damaged_value(s->bytes[place]);
     }
+}
+
+/* Old and new. */
+
+uint8_t *saved_record(struct save *s, unsigned device)
+{
+    return s->bytes + PIL_SAVE_RECORD_AT(device) + PIL_SAVE_HEAD_LENGTH;
+}
+
+void make_old(struct save *s, int with_choices)
+{
+    s->bytes[PIL_SAVE_EDITION] = PIL_EDITION_OLD;
+    for (unsigned i = 0; i < saved_devices(s) && !with_choices; i++)
+        saved_record(s, i)[PIL_RECORD_END] = PIL_LAST_PLAIN;
+}
+
+void upgrade(struct save *s)
+{
+    s->bytes[PIL_SAVE_EDITION] = PIL_EDITION_NOW;
+    for (unsigned i = 0; i < saved_devices(s); i++)
+        if (saved_record(s, i)[PIL_RECORD_DATA_LENGTH] > 0)
+            saved_record(s, i)[PIL_RECORD_END] = PIL_LAST_END;
 }

@@ -19,6 +19,7 @@ enum spoilt {
     OUT_OF_ORDER,  /* two parts of different kinds have changed places */
     COUNT_CHANGED, /* the header's number of devices, and no other byte */
     COUNT_REFUSED, /* well-formed, but of no or too many devices */
+    NO_EDITION,    /* an edition that there is not, and no other byte */
     SPOILINGS
 };
 
@@ -30,5 +31,12 @@ size_t part_at(unsigned devices, unsigned part);
 void spoil_form(struct save *s, enum spoilt how);
 /* Changes bytes of bodies, or the places of two bodies of one kind: its form stays, and perhaps it is still sound. */
 void spoil_contents(struct save *s);
+
+/* The record of a device in a save, which is well-formed. */
+uint8_t *saved_record(struct save *s, unsigned device);
+/* Makes a new save an old one (02, h). It may have no choices: they are made plain, or left for a refusal. */
+void make_old(struct save *s, int with_choices);
+/* Makes an old save the new one that it is opened as. */
+void upgrade(struct save *s);
 
 #endif

@@ -21,7 +21,8 @@ typedef void function(void);
 
 static _Alignas(16) uint8_t stack[DEEP];
 static uint8_t ready[LOOP_LENGTH], area[LOOP_LENGTH];
-static uint8_t save[LOOP_SAVE_LENGTH], output[LOOP_SAVE_LENGTH]; /* the save of what is ready, and what is saved */
+static uint8_t save[LOOP_SAVE_LENGTH], old_save[LOOP_SAVE_LENGTH]; /* of what is ready, as it is written now and was */
+static uint8_t output[LOOP_SAVE_LENGTH]; /* what is saved */
 
 /* What is measured. A refused hop shows what the test of soundness leaves, which a hop may write over. */
 static const struct call {
@@ -36,9 +37,10 @@ static const struct call {
     {"hop refused with 3", {(function *)pil_hop, (function *)model_hop}, LOOP_DEVICES, 1, 1},
     {"save", {(function *)pil_save, (function *)model_save}, (uintptr_t)output, 1, 1},
     {"open", {(function *)pil_open, (function *)model_open}, (uintptr_t)save, 1, 1},
+    {"open an old save", {(function *)pil_open, (function *)model_open}, (uintptr_t)old_save, 1, 1},
 };
 
-enum { HOP, DRAIN, HOP_REFUSED, SAVE, OPEN, CALLS = sizeof calls / sizeof *calls };
+enum { HOP, DRAIN, HOP_REFUSED, SAVE, OPEN, OPEN_OLD, CALLS = sizeof calls / sizeof *calls };
 
 /* The most that a call took or copied, and where it first did. */
 struct most {
@@ -114,7 +116,7 @@ static void must(int holds, const char *what, unsigned which, unsigned frame)
 static void lend(unsigned which)
 {
     memcpy(area, ready, sizeof area);
-    if (which == OPEN)
+    if (which == OPEN || which == OPEN_OLD)
         memset(area, 0, sizeof area);
     if (which == SAVE)
         memset(output, 0, sizeof output);
@@ -124,7 +126,8 @@ static void lend(unsigned which)
 static int done(unsigned which)
 {
     return area[PIL_LINK_AT(LOOP_DEVICES, HOPPER) + PIL_LINK_COUNT] == calls[which].left
-        && (which != SAVE || memcmp(output, save, sizeof save) == 0);
+        && (which != SAVE || memcmp(output, save, sizeof save) == 0)
+        && (which < OPEN || memcmp(area, ready, sizeof area) == 0);
 }
 
 static void measure(unsigned which, int side, unsigned frame)
@@ -179,6 +182,15 @@ static int make_record(uint8_t *r, unsigned number, unsigned frame)
     return 1;
 }
 
+static void make_saves(void)
+{
+    model_save(ready, sizeof ready, save, sizeof save);
+    memcpy(old_save, save, sizeof save);
+    old_save[PIL_SAVE_EDITION] = PIL_EDITION_OLD;
+    for (unsigned i = 0; i < LOOP_DEVICES; i++)
+        old_save[PIL_SAVE_RECORD_AT(i) + PIL_SAVE_HEAD_LENGTH + PIL_RECORD_END] = 0;
+}
+
 static void try_case(unsigned number, unsigned frame)
 {
     uint8_t record[PIL_RECORD_LENGTH];
@@ -189,7 +201,7 @@ static void try_case(unsigned number, unsigned frame)
         memcpy(ready + PIL_RECORD_AT(i), record, sizeof record);
     fill_link(ready, HOPPER, 1, frame, 0);
     if (frame < calls[OPEN].frames)
-        model_save(ready, sizeof ready, save, sizeof save);
+        make_saves();
     for (unsigned which = 0; which < CALLS; which++)
         for (int side = PIL; frame < calls[which].frames && side <= MODEL; side++)
             measure(which, side, frame);

@@ -1,9 +1,9 @@
 // The area that a save holds: judged in its place, body by body, and read.
 use area::HEADER_SIZE;
 use area::LINK_SIZE;
-use judge::contents::header_sound;
 use judge::contents::links_sound;
 use judge::contents::records_sound;
+use judge::contents::rest_zero;
 use saved::DEVICE_RECORD;
 use saved::HEAD_SIZE;
 use saved::HEADER_RECORD;
@@ -15,10 +15,10 @@ ghost use mathlib.Core.List.{map};
 ghost use Prim.Native.Nat.{_+_, _*_, _≤_};
 ghost use lib.ListN.{length};
 ghost use Rattle.record.specs.Record.{recordSize};
-ghost use Rattle.area.specs.Sizes.{areaSize};
+ghost use Rattle.area.specs.Sizes.{headerSize, areaSize};
 ghost use Rattle.area.specs.Parts.{parts, join, all};
 ghost use Rattle.area.specs.Loop.{sound};
-ghost use Rattle.saved.specs.Saved.{headSize, savedDeviceSize, savedLinkSize, body, contents};
+ghost use Rattle.saved.specs.Saved.{headSize, unmarked, savedDeviceSize, savedLinkSize, body, contents};
 ghost use Rattle.saved.specs.Inner.{soundDeviceIn, soundLinkIn, SaveOf};
 
 // Whether the bodies of so many devices' records are sound. Each is judged as a row of one, by the pass over areas, so
@@ -56,13 +56,13 @@ fn link_bodies_sound(records: &[u8], n: usize) -> bool
     true
 }
 
-// Whether the area that a save of n devices holds is sound.
+// Whether the area that a save of n devices holds is sound. Its header's byte 1 is told by the save's form.
 pub fn bodies_sound(save: &[u8], n: usize) -> bool
     requires { ⌜ SaveOf n (now save) ⌝ }
     ensures { λ r. ⌜ r ≡ sound (contents (now (save .entry))) ⌝ }
 {
     let links = links_at(n);
-    header_sound(&save[HEAD_SIZE..])
+    rest_zero(&save[HEAD_SIZE..])
         & (device_bodies_sound(&save[HEADER_RECORD..], n)
             & link_bodies_sound(&save[links..], n + 1))
 }
@@ -86,6 +86,15 @@ fn read_run(records: &[u8], to: &mut [u8], size: usize, count: usize)
     }
 }
 
+// A header's body, with the area's own byte 1.
+fn read_header(body: &[u8], to: &mut [u8])
+    requires { ⌜ (length (now body) ≡ headerSize) × (length (now to) ≡ headerSize) ⌝ }
+    ensures { λ _. ⌜ now (to .exit) ≡ unmarked (now (body .entry)) ⌝ }
+{
+    fill(body, to);
+    to[1] = 0;
+}
+
 // The area that a save of n devices holds: its header, the devices' records, the links.
 pub fn read_bodies(save: &[u8], area: &mut [u8], n: usize)
     requires { ⌜ SaveOf n (now save) × (length (now area) ≡ areaSize n) ⌝ }
@@ -93,7 +102,7 @@ pub fn read_bodies(save: &[u8], area: &mut [u8], n: usize)
 {
     let from = links_at(n);
     let links = HEADER_SIZE + record::SIZE * n;
-    fill(&save[HEAD_SIZE..HEADER_RECORD], &mut area[..HEADER_SIZE]);
+    read_header(&save[HEAD_SIZE..HEADER_RECORD], &mut area[..HEADER_SIZE]);
     read_run(
         &save[HEADER_RECORD..],
         &mut area[HEADER_SIZE..links],

@@ -1,10 +1,13 @@
 -- The laws of the calls: a contract leaves one answer, a call on an area is its call on the loop, every call keeps.
-use mathlib.Core.Path.{sym, _∙_}
+use mathlib.Core.Path.{refl, sym, _∙_}
+use mathlib.Core.Bool.{Bool, true, false, cond}
+use Rattle.device.specs.Device.{isChoice}
 use Rattle.keeps.proofs.Keeps.{load-good, status-good, wish-good}
 use Rattle.area.proofs.Areas.{holds-of}
-use Rattle.calls.specs.Outcome.{loopAfter}
-use Rattle.calls.specs.Laws.{Unique, CallOnLoop, AreaAfter, LoadKeeps, StatusKeeps, WishKeeps}
-use Rattle.record_local.specs.Local.{loads, setsStatus, wishes}
+use Rattle.calls.specs.Outcome.{refuse, loopAfter}
+use Rattle.calls.specs.Calls.{localIn, loadIn}
+use Rattle.calls.specs.Laws.{Unique, CallOnLoop, Kept, AreaAfter, LoadKeeps, StatusKeeps, WishKeeps}
+use Rattle.record_local.specs.Local.{badChoice, loads, setsStatus, wishes}
 use Rattle.calls.proofs.Outcomes.{call-done}
 use Rattle.calls.proofs.Kept.{local-keeps}
 use Rattle.calls.proofs.Turns.{after-area}
@@ -21,7 +24,12 @@ area-after A deny call keeps l s =
     (holds-of (loopAfter l (call l)) (keeps l s .sound))
 
 pub load-keeps : LoadKeeps
-load-keeps i bs small = local-keeps (λ d. loads d bs) (λ d g. load-good d bs small g) i
+unfolding loadIn
+load-keeps i bs e small l s = go (isChoice e)
+  where
+    go : (t : Bool) → Kept l (loopAfter l (cond t (localIn (λ d. loads d bs e) i l) (refuse badChoice)))
+    go true = local-keeps (λ d. loads d bs e) (λ d g. load-good d bs e small g) i l s
+    go false = record { sound = s; same = refl }
 
 pub status-keeps : StatusKeeps
 status-keeps i s small = local-keeps (λ d. setsStatus d s) (λ d g. status-good d s small g) i

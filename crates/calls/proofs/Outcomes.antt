@@ -4,21 +4,22 @@ use mathlib.Core.List.{List, []}
 use mathlib.Core.Bool.{Bool, true, false, cond}
 use Prim.Native.Nat.{ℕ, suc, _≤_, _<_}
 use native.Mathlib.Omega.{arith}
-use lib.Dec.{ltb}
+use lib.Dec.{eqb, ltb}
 use lib.Seq.{getD-set-other}
 use borrow.Author.Tests.{lt-ltb, le-ltb, ltb-true, ltb-false, eq-eqb, ne-eqb}
 use Rattle.frame.specs.Messages.{frames}
 use Rattle.frame.specs.Coding.{badFrame}
+use Rattle.device.specs.Device.{isChoice}
 use Rattle.device.specs.declared.Device.{Device}
-use Rattle.record_local.specs.Local.{Called}
-use Rattle.area.specs.Loop.{Loop, size, loopOf, judgeOf, device, link}
+use Rattle.record_local.specs.Local.{Called, badChoice, loads}
+use Rattle.area.specs.Loop.{Loop, size, loopOf, shape, unsound, shaped, sound, judgeOf, judgeWith, device, link}
 use Rattle.area.specs.Lookup.{oldestOf, roomOf, placeOf, setLink, add, remove}
 use Rattle.area.specs.declared.Oldest.{Oldest}
 use Rattle.area.specs.declared.Room.{Room}
 use Rattle.area.specs.declared.Place.{Place}
 use Rattle.calls.specs.Outcome.{Outcome, refuse, done, after, afterOf, callOf, callWith, Is}
 use Rattle.calls.specs.Calls.{noDevice, empty, full, ofOldest, intoRoom, putIn, takenFrom, takeIn, hopAnswer}
-use Rattle.calls.specs.Calls.{sentBy, passed, passes, passesOn, hopIn, calledIn, localIn}
+use Rattle.calls.specs.Calls.{refusal, sentBy, passed, passes, passesOn, hopIn, calledIn, localIn, loadIn}
 
 -- a call that is done
 abbrev pub IsDone : {A : Type 0} → Outcome A → Type 0
@@ -43,6 +44,25 @@ module _ {A : Type 0} (deny : ℕ → A) (call : Loop → Outcome A) (a : List �
   pub judged-right : (k : ℕ) (r : A) (x : List ℕ) → k ≡ judgeOf a → k ≡ 0 →
       Is (afterOf deny a (call (loopOf a))) r x → Is (callOf deny call a) r x
   judged-right k r x e z h = rw (call-done (sym e ∙ z)) h
+
+-- ---- load: its choice before all else
+
+module _ (a : List ℕ) (i : ℕ) (bs : List ℕ) (e : ℕ) where
+  pub load-chosen : isChoice e ≡ true →
+      callOf refusal (loadIn i bs e) a ≡ callOf refusal (localIn (λ d. loads d bs e) i) a
+  unfolding callWith loadIn
+  load-chosen h = rw h
+
+  pub load-unchosen : isChoice e ≡ false → callOf refusal (loadIn i bs e) a ≡ after (cond (shaped a) unsound shape) a
+  unfolding callWith judgeWith loadIn
+  load-unchosen h = rw h (go (shaped a) (sound a))
+    where
+      go : (s t : Bool) →
+          cond (eqb (cond s (cond t 0 unsound) shape) 0) (after badChoice a)
+          (after (cond s (cond t 0 unsound) shape) a) ≡ after (cond s unsound shape) a
+      go true true = refl
+      go true false = refl
+      go false t = refl
 
 -- ---- what the lookups say
 

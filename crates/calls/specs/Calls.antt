@@ -6,8 +6,9 @@ use mathlib.Core.Bool.{cond}
 use lib.Dec.{ltb, eqb}
 use Rattle.frame.specs.Messages.{frames}
 use Rattle.frame.specs.Coding.{badFrame}
+use Rattle.device.specs.Device.{isChoice}
 use Rattle.device.specs.Take.{takes}
-use Rattle.record_local.specs.Local.{loads, setsStatus, wishes}
+use Rattle.record_local.specs.Local.{badChoice, loads, setsStatus, wishes}
 use Rattle.device.specs.declared.Device.{Device}
 use Rattle.device.specs.declared.Handed.{Handed}
 use Rattle.device.specs.declared.Handed.the-variants as handed
@@ -114,6 +115,10 @@ calledAt call l i = calledIn i l (call (device l i))
 unfoldable pub localIn : (Device → Called) → ℕ → Loop → Outcome ℕ
 localIn call i l = atPlace (calledAt call l) (placeOf l i)
 
+-- load refuses a choice other than 0 or 1 before the device is looked for (02, h)
+unfoldable pub loadIn : ℕ → List ℕ → ℕ → Loop → Outcome ℕ
+loadIn i bs e l = cond (isChoice e) (localIn (λ d. loads d bs e) i l) (refuse badChoice)
+
 -- ---- the calls on areas
 
 abbrev pub putOf : List ℕ → ℕ → After ℕ
@@ -125,8 +130,8 @@ takeOf a = callOf noTake takeIn a
 abbrev pub hopOf : List ℕ → ℕ → After HopAnswer
 hopOf a i = callOf noHop (hopIn i) a
 
-abbrev pub loadOf : List ℕ → ℕ → List ℕ → After ℕ
-loadOf a i bs = callOf refusal (localIn (λ d. loads d bs) i) a
+abbrev pub loadOf : List ℕ → ℕ → List ℕ → ℕ → After ℕ
+loadOf a i bs e = callOf refusal (loadIn i bs e) a
 
 abbrev pub statusOf : List ℕ → ℕ → ℕ → After ℕ
 statusOf a i s = callOf refusal (localIn (λ d. setsStatus d s) i) a

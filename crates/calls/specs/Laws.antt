@@ -3,13 +3,13 @@ use Prim.Native.Nat.{ℕ, _<_}
 use mathlib.Core.Path.{_≡_}
 use mathlib.Core.Bool.{true}
 use mathlib.Core.List.{List}
-use Rattle.record_local.specs.Local.{loads, setsStatus, wishes}
+use Rattle.record_local.specs.Local.{setsStatus, wishes}
 use Rattle.record.specs.Fits.{Bytes}
 use Rattle.record.specs.Sound.{allowed}
 use Rattle.area.specs.Parts.{all}
 use Rattle.area.specs.Loop.{Loop, size, areaOf, SoundWith, Sound-loop, Holds}
 use Rattle.calls.specs.Outcome.{Outcome, After, afterOf, callOf, Is, loopAfter}
-use Rattle.calls.specs.Calls.{putIn, takeIn, hopIn, localIn}
+use Rattle.calls.specs.Calls.{putIn, takeIn, hopIn, localIn, loadIn}
 use Rattle.calls.specs.Drain.{drainIn}
 use Rattle.calls.specs.SetUp.{itemsOf, itemsFit, poweredOn}
 
@@ -49,7 +49,7 @@ abbrev pub HopKeeps : Type 0
 HopKeeps = (i : ℕ) → Keeps (hopIn i)
 
 abbrev pub LoadKeeps : Type 0
-LoadKeeps = (i : ℕ) (bs : List ℕ) → Bytes bs → Keeps (localIn (λ d. loads d bs) i)
+LoadKeeps = (i : ℕ) (bs : List ℕ) (e : ℕ) → Bytes bs → Keeps (loadIn i bs e)
 
 abbrev pub StatusKeeps : Type 0
 StatusKeeps = (i s : ℕ) → s < 256 → Keeps (localIn (λ d. setsStatus d s) i)

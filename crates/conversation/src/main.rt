@@ -73,7 +73,7 @@ fn addresses(area: &mut [u8]) {
 // UNL, LAD 2, TAD 1, SDA: the meter replaces SDA by its first byte, which the printer is handed.
 fn transfer(area: &mut [u8]) {
     text(b"data transfer\n");
-    pil::pil_load(area, 0, b"1.5");
+    pil::pil_load_end(area, 0, b"1.5");
     send(area, 0x43f);
     send(area, 0x500);
     send(area, 0x422);

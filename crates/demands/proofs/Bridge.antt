@@ -7,13 +7,14 @@ use mathlib.Core.Option.{Option, none, some, Option·map}
 use mathlib.Core.List.{List, [], _∷_, tail}
 use native.Mathlib.Omega.{arith}
 use lib.ListN.{length, getD}
-use lib.Dec.{eqb, ltb}
+use lib.Dec.{eqb, ltb, leb}
 use borrow.Author.Tests.{eqb-false, ltb-true, ltb-false, lt-ltb}
 use Rattle.frame.specs.Messages.{frames}
+use Rattle.device.specs.Device.{isChoice}
 use Rattle.device.specs.Take.{takes}
 use Rattle.device.specs.declared.Handed.{Handed}
 use Rattle.device.specs.declared.Handed.the-variants as handed
-use Rattle.record_local.specs.Local.{Called}
+use Rattle.record_local.specs.Local.{Called, loads}
 use Rattle.record.specs.Record.{deviceOf}
 use Rattle.area.specs.Loop.{Loop, device, link}
 use Rattle.area.specs.Lookup.{oldestOf, setDevice, setLink, add}
@@ -21,7 +22,7 @@ use Rattle.area.specs.declared.Room.{Room}
 use Rattle.area.specs.declared.Place.{Place}
 use Rattle.calls.specs.Outcome.{Outcome, refuse, done}
 use Rattle.calls.specs.Calls.{atPlace, ofOldest, intoRoom, hopAnswer, putIn, takenFrom, takeIn, hopIn, calledIn}
-use Rattle.calls.specs.Calls.{calledAt, localIn}
+use Rattle.calls.specs.Calls.{refusal, calledAt, localIn, loadIn}
 use Rattle.calls.specs.declared.HopAnswer.{HopAnswer}
 use Rattle.calls.specs.declared.TakeAnswer.{TakeAnswer}
 use Rattle.calls.proofs.Lined as lined
@@ -32,7 +33,10 @@ use Rattle.order.specs.Flat.{Flat, putFlat, hopFlat}
 use Rattle.order.specs.Flat.{takeFrom as takeFromFlat, takeFlat, callFlat}
 use Rattle.order.specs.History.{listed}
 use Rattle.order.proofs.Flat.{there, gone}
-use Rattle.demands.specs.Histories.{Got, got, if, Local, calledBy, handedOver, acceptedBy, papers}
+use Rattle.demands.specs.Calls.{Byte, numbers}
+use Rattle.demands.specs.Histories.{Got, got, if, Local, toLoad, calledBy, handedOver, acceptedBy, papers}
+use Rattle.demands.proofs.Refusals.{Told, no, yes}
+use Rattle.demands.proofs.Tests.{load-untold}
 
 -- a flat line as a loop, and the loop of a line
 abbrev pub loopFlat : Flat papers → Loop
@@ -119,3 +123,26 @@ local-alike c i x = go (ltb i (length (x .states))) refl
     go true e = rw (there (x .states) i (deviceOf []) (ltb-true _ _ e))
         (called-alike i x (calledBy c (getD (x .states) i (deviceOf []))))
     go false e = rw (gone (x .states) i (ltb-false _ _ e)) (both-refuse 3 (λ z. omega arith))
+
+-- a load without a choice is refused by the line as by the loop, if not with the same number
+load-refused : (o : Outcome ℕ) (k : ℕ) (p : Option (Flat papers × Unit {0})) → Told ℕ refusal o k → (k ≡ 0 → ⊥) →
+    Alike ℕ (Unit {0}) Fine o p → Alike ℕ (Unit {0}) Fine (refuse 2) p
+load-refused o k p (no j n) z (both-refuse j′ n′) = both-refuse 2 (λ e. omega arith)
+load-refused o k p (yes r m e) z t = absurd (z refl)
+
+pub load-alike : (i : ℕ) (bs : List Byte) (e : ℕ) (x : Flat papers) →
+    Alike ℕ (Unit {0}) Fine (loadIn i (numbers bs) e (loopFlat x)) (bare (callFlat x i (toLoad bs e)))
+unfolding loadIn
+load-alike i bs e x = go (isChoice e) refl
+  where
+    three-or-two : (t : Bool) → _≡_ {A = ℕ} (cond t 3 2) 0 → ⊥
+    three-or-two true z = omega arith
+    three-or-two false z = omega arith
+
+    go : (t : Bool) → isChoice e ≡ t →
+        Alike ℕ (Unit {0}) Fine (cond t (localIn (λ d. loads d (numbers bs) e) i (loopFlat x)) (refuse 2))
+        (bare (callFlat x i (toLoad bs e)))
+    go true q = local-alike (toLoad bs e) i x
+    go false q =
+        load-refused _ _ _ (load-untold i (numbers bs) e (loopFlat x) q) (three-or-two (leb (length (x .states)) i))
+        (local-alike (toLoad bs e) i x)

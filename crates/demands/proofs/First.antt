@@ -13,28 +13,29 @@ use Rattle.frame.specs.Coding.{decodeOf, inList, encodeOf}
 use Rattle.frame.specs.declared.Decoded.the-variants as decoder
 use Rattle.frame.specs.declared.Encoded.the-variants as encoder
 use Rattle.coding.specs.Coding.{decodedAs, encodedAs}
-use Rattle.record_local.specs.Local.{loads, setsStatus, wishes}
-use Rattle.record.specs.Sound.{allowed}
+use Rattle.record_local.specs.Local.{setsStatus, wishes}
+use Rattle.record.specs.Sound.{only, allowed}
 use Rattle.area.specs.Sizes.{areaSize, mostDevices, itemSize}
 use Rattle.area.specs.Parts.{parts, all}
 use Rattle.area.specs.Loop.{countIn, loopOf, areaOf, shaped, sound, device}
 use Rattle.calls.specs.Outcome.{After, after, reads}
-use Rattle.calls.specs.Calls.{noTake, noHop, refusal, putIn, takeIn, hopIn, localIn}
+use Rattle.calls.specs.Calls.{noTake, noHop, refusal, putIn, takeIn, hopIn, localIn, loadIn}
 use Rattle.calls.specs.Drain.{noDrain, drainIn}
 use Rattle.calls.specs.Owed.{noOwed, owedIn}
 use Rattle.calls.specs.declared.OwedAnswer.{OwedAnswer}
 use Rattle.calls.specs.SetUp.{devicesFor, itemsFit, poweredOn, setUpOf, setUpWith}
-use Rattle.saved.specs.Saved.{saved, savedSize, savedCount, formed, contents}
+use Rattle.saved.specs.Saved.{body, saved, savedSize, savedCount, savedDevices, formed, contents}
+use Rattle.saved.specs.Older.{old, choiceless, opened, soundSave}
 use Rattle.saved.specs.Calls.{saveOf, saveWith, openWith}
 use Rattle.demands.specs.Calls.{Byte, numbers, Action, put, hop, take, load, status, wish, drain, owes, save}
 use Rattle.demands.specs.Calls.{Call, onArea, setUp, opens, decode, encode, Answer, plain, hopped, taken}
 use Rattle.demands.specs.Calls.{drained, owing, saving, decoded, encoded, told, pil, refusalIn, bare, acts}
-use Rattle.demands.specs.Conditions.{devicesAt, badC1, BadFrame, due}
+use Rattle.demands.specs.Conditions.{devicesAt, oldWithChoice, badC1, BadFrame, due}
 use Rattle.demands.specs.Demands.{Demand1}
 use Rattle.demands.proofs.Away.{whole}
 use Rattle.demands.proofs.Lengths.{found-at, at-is, shape-is, for-is}
 use Rattle.demands.proofs.Refusals.{yes, Met, call-met, leb-turned, turned-lt}
-use Rattle.demands.proofs.Tests.{size-is, put-told, take-told, hop-told, local-told, load-refusal}
+use Rattle.demands.proofs.Tests.{size-is, put-told, take-told, hop-told, local-told, load-told}
 use Rattle.demands.proofs.Tests.{status-refusal, wish-refusal, drain-told}
 
 -- a call held to a refusal, as demand 1 has it
@@ -89,14 +90,20 @@ module _ (a : List ℕ) where
       let m = call-met _ noHop (λ k. refl) a (hopIn i) _ t in
       held (hop i) _ (record { refused = m .refusal; unchanged = λ z. (ap hopped (m .refused z .0), m .refused z .1) })
 
-  load-held : (i : ℕ) (bs : List Byte) →
-      Held (onArea (load i bs)) a (pil (onArea (load i bs)) a) (due (onArea (load i bs)) a)
+  -- a choice that is none beside contents that are not sound
+  either-two : (c s : Bool) (k : ℕ) → cond (not s) 2 (cond c 2 k) ≡ cond (c || not s) 2 k
+  either-two true true k = refl
+  either-two true false k = refl
+  either-two false s k = refl
+
+  load-held : (i : ℕ) (bs : List Byte) (e : ℕ) →
+      Held (onArea (load i bs e)) a (pil (onArea (load i bs e)) a) (due (onArea (load i bs e)) a)
   unfolding rows
-  load-held i bs =
-      let t = rw (size-is a, load-refusal (device (loopOf a) i) (numbers bs)) at
-      (local-told (λ d. loads d (numbers bs)) i (loopOf a)) in
-      let m = call-met refusal refusal (λ k. refl) a (localIn (λ d. loads d (numbers bs)) i) _ t in
-      let p = plainly _ m in held (load i bs) _ (record { refused = p .0; unchanged = p .1 })
+  load-held i bs e =
+      let t = rw (size-is a) at (load-told i (numbers bs) e (loopOf a)) in
+      let m = call-met refusal refusal (λ k. refl) a (loadIn i (numbers bs) e) _ t in
+      let p = plainly _ m in
+      rw (either-two (ltb 1 e) (sound a)) at (held (load i bs e) _ (record { refused = p .0; unchanged = p .1 }))
 
   status-held : (i : ℕ) (s : Byte) →
       Held (onArea (status i s)) a (pil (onArea (status i s)) a) (due (onArea (status i s)) a)
@@ -154,7 +161,7 @@ module _ (a : List ℕ) where
   action-held (put f) = put-held f
   action-held (hop i) = hop-held i
   action-held take = take-held
-  action-held (load i bs) = load-held i bs
+  action-held (load i bs e) = load-held i bs e
   action-held (status i s) = status-held i s
   action-held (wish i w) = wish-held i w
   action-held (drain b) = drain-held b
@@ -213,18 +220,29 @@ module _ (a : List ℕ) (bytes : List Byte) where
 
 -- ---- opening: the form of the save before the two tests
 
+-- an old save with a choice beside contents that are not sound
+unsound-save : (s : List ℕ) → not (soundSave s) ≡ (not (sound (contents s)) || oldWithChoice s)
+unfolding soundSave
+unsound-save s = go (sound (contents s)) (old s) (all (λ r. choiceless (body r)) (savedDevices s))
+  where
+    go : (x y z : Bool) → not (x && only y z) ≡ (not x || (y && not z))
+    go true true true = refl
+    go true true false = refl
+    go true false z = refl
+    go false y z = refl
+
 opens-held : (s : List Byte) (a : List ℕ) → Held (opens s) a (pil (opens s) a) (due (opens s) a)
 unfolding openWith Right
-opens-held s a = go (formed mostDevices (numbers s))
+opens-held s a = rw (← unsound-save (numbers s)) (go (formed mostDevices (numbers s)))
   where
     lengths : Bool
     lengths = eqb (length a) (areaSize (savedCount (numbers s)))
 
     go : (f : Bool) → Held (opens s) a
-        (told plain (cond f (cond lengths (cond (sound (contents (numbers s))) (after 0 (contents (numbers s)))
+        (told plain (cond f (cond lengths (cond (soundSave (numbers s)) (after 0 (opened (numbers s)))
         (after 2 a)) (after 1 a)) (after 10 a)))
-        (cond (not f) 10 (cond (not lengths) 1 (cond (not (sound (contents (numbers s)))) 2 0)))
-    go true = let m = right a (contents (numbers s)) lengths (sound (contents (numbers s))) in
+        (cond (not f) 10 (cond (not lengths) 1 (cond (not (soundSave (numbers s))) 2 0)))
+    go true = let m = right a (opened (numbers s)) lengths (soundSave (numbers s)) in
         record { refused = m .0; unchanged = λ z. (ap plain (m .0), m .1 z) }
     go false = record { refused = refl; unchanged = λ z. (refl, refl) }
 

@@ -15,7 +15,7 @@ use Rattle.area.specs.Loop.{Loop, countIn, loopOf, areaOf, shaped, sound, judge
 use Rattle.area.proofs.Laws.{loop-sound}
 use Rattle.calls.proofs.Owing.{loop-owes}
 use Rattle.saved.specs.Calls.{openOf}
-use Rattle.saved.proofs.Laws.{one-form, saved-once}
+use Rattle.saved.proofs.Laws.{saved-new, one-form, saved-once}
 use Rattle.order.specs.Line as line
 use Rattle.order.specs.Flat as flat
 use Rattle.order.specs.History as told
@@ -27,7 +27,7 @@ use Rattle.order.proofs.Owed.{owed-law}
 use Rattle.order.proofs.Idle.{idle-owed}
 use Rattle.demands.specs.Calls.{numbers, Action, put, hop, take, load, status, wish, drain, onArea, opens, Answer}
 use Rattle.demands.specs.Calls.{acts, refusalIn}
-use Rattle.demands.specs.Conditions.{devicesAt, badOutput}
+use Rattle.demands.specs.Conditions.{devicesAt, badOutput, noChoice}
 use Rattle.demands.specs.Histories.{Step, call, putBy, hopsBy, areaLeft, framesPut, hopsMade, toLoad, toStatus}
 use Rattle.demands.specs.Histories.{toWish, papers, calls, lineOf}
 use Rattle.demands.specs.Demands.{Judged, hopsOwed, OwedAfterHop, OwedAfterDrain, OwedAfterPut, OwedAfterTake}
@@ -89,24 +89,29 @@ step c a j =
 pub owed-after-refusal : OwedAfterRefusal
 owed-after-refusal c a h = ap hopsOwed (demand-1 .changes-nothing c a (λ z. h (demand-1 .by-table c a ∙ z)) .1)
 
--- an area with no condition of the table's first two rows has no refusal; the first row may have another condition
-judge-is : (a : List ℕ) (other : Bool) (k : ℕ) →
-    cond (other || (eqb (devicesAt (length a)) 0 || not (eqb (length a) (areaSize (countIn a))))) 1
-    (cond (not (sound a)) 2 k) ≡ 0 → judgeOf a ≡ 0
+-- an area with no condition of the table's first two rows has no refusal; each of them may have another condition
+judge-is : (a : List ℕ) (one two : Bool) (k : ℕ) →
+    cond (one || (eqb (devicesAt (length a)) 0 || not (eqb (length a) (areaSize (countIn a))))) 1
+    (cond (two || not (sound a)) 2 k) ≡ 0 → judgeOf a ≡ 0
 unfolding judgeWith
-judge-is a other k h = go other (shaped a) (sound a) (rw (shape-is a) at h)
+judge-is a one two k h = go one (shaped a) two (sound a) (rw (shape-is a) at h)
   where
-    go : (o s t : Bool) → _≡_ {A = ℕ} (cond (o || not s) 1 (cond (not t) 2 k)) 0 →
+    go : (o s w t : Bool) → _≡_ {A = ℕ} (cond (o || not s) 1 (cond (w || not t) 2 k)) 0 →
         _≡_ {A = ℕ} (cond s (cond t 0 2) 1) 0
-    go true s t e = absurd (omega (arith, e))
-    go false true true e = refl
-    go false true false e = absurd (omega (arith, e))
-    go false false t e = absurd (omega (arith, e))
+    go true s w t e = absurd (omega (arith, e))
+    go false true true t e = absurd (omega (arith, e))
+    go false true false true e = refl
+    go false true false false e = absurd (omega (arith, e))
+    go false false w t e = absurd (omega (arith, e))
 
 module _ (c : Action) (a : List ℕ) (bytes : Bytes a) where
   -- so the area of an accepted call has none
   judged : refusalIn (acts c a .answer) ≡ 0 → Judged a
-  judged h = record { bytes = bytes; sound = judge-is a (badOutput c a) _ (sym (demand-1 .by-table (onArea c) a) ∙ h) }
+  judged h =
+      record {
+        bytes = bytes;
+        sound = judge-is a (badOutput c a) (noChoice c) _ (sym (demand-1 .by-table (onArea c) a) ∙ h);
+      }
 
   -- a call was accepted, or it was refused
   either : {P : Type 0} → (Judged a → P) → ((refusalIn (acts c a .answer) ≡ 0 → ⊥) → P) → P
@@ -147,7 +152,7 @@ pub owed-after-take : OwedAfterTake
 owed-after-take a bytes = quiet take a bytes refl refl
 
 pub owed-after-local-call : OwedAfterLocalCall
-owed-after-local-call (toLoad bs) i a bytes = quiet (load i bs) a bytes refl refl
+owed-after-local-call (toLoad bs e) i a bytes = quiet (load i bs e) a bytes refl refl
 owed-after-local-call (toStatus s) i a bytes = quiet (status i s) a bytes refl refl
 owed-after-local-call (toWish w) i a bytes = quiet (wish i w) a bytes refl refl
 
@@ -201,5 +206,5 @@ owed-after-set-up items a set =
 pub owed-after-opening : OwedAfterOpening
 owed-after-opening s a b j e h =
     let z : openOf a (numbers s) .answer ≡ 0 = demand-1 .by-table (opens s) a ∙ h in
-    let f = one-form (openOf a (numbers s) .area) a (numbers s) (whole z refl) in
+    let f = one-form (openOf a (numbers s) .area) a (numbers s) (whole z refl) (rw e (saved-new b (j .sound))) in
     ap hopsOwed (saved-once (openOf a (numbers s) .area) b (f .0) (j .sound) (sym (f .1) ∙ e))

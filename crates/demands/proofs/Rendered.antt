@@ -8,12 +8,12 @@ use native.Mathlib.Omega.{arith}
 use lib.Dec.{ltb}
 use borrow.Author.Tests.{lt-ltb, ltb-true}
 use Rattle.frame.specs.Messages.{frames}
-use Rattle.record_local.specs.Local.{loads, setsStatus, wishes}
+use Rattle.record_local.specs.Local.{setsStatus, wishes}
 use Rattle.record.specs.Fits.{Bytes}
 use Rattle.area.specs.Loop.{Loop, areaOf, Sound-loop}
 use Rattle.area.proofs.Laws.{loop-back, area-sound}
 use Rattle.calls.specs.Outcome.{Outcome, refuse, done, loopAfter}
-use Rattle.calls.specs.Calls.{noHop, noTake, refusal, putIn, takeIn, hopIn, localIn}
+use Rattle.calls.specs.Calls.{noHop, noTake, refusal, putIn, takeIn, hopIn, localIn, loadIn}
 use Rattle.calls.specs.Drain.{noDrain, drainIn}
 use Rattle.calls.proofs.Kept.{put-keeps, take-keeps, hop-keeps, drain-keeps}
 use Rattle.calls.proofs.Laws.{load-keeps, status-keeps, wish-keeps}
@@ -50,8 +50,8 @@ pub on-loop-sound : (c : Action) (m : Loop) → Sound-loop m → Sound-loop ((on
 on-loop-sound (put f) m s = settle-sound plain refusal m (putIn f m) (put-keeps f m s .sound)
 on-loop-sound (hop i) m s = settle-sound hopped noHop m (hopIn i m) (hop-keeps i m s .sound)
 on-loop-sound take m s = settle-sound taken noTake m (takeIn m) (take-keeps m s .sound)
-on-loop-sound (load i bs) m s = settle-sound plain refusal m (localIn (λ d. loads d (numbers bs)) i m)
-    (load-keeps i (numbers bs) (numbers-bytes bs) m s .sound)
+on-loop-sound (load i bs e) m s = settle-sound plain refusal m (loadIn i (numbers bs) e m)
+    (load-keeps i (numbers bs) e (numbers-bytes bs) m s .sound)
 on-loop-sound (status i x) m s = settle-sound plain refusal m (localIn (λ d. setsStatus d (x .value)) i m)
     (status-keeps i (x .value) (x .small) m s .sound)
 on-loop-sound (wish i w) m s = settle-sound plain refusal m (localIn (λ d. wishes d w) i m) (wish-keeps i w m s .sound)
@@ -103,7 +103,7 @@ pub writes : (c : line.Call papers) → FairCall (λ f. f < frames) c → calls 
 writes (line.put f) h = rw (lt-ltb f frames h)
 writes (line.hop i) h = refl
 writes line.take h = refl
-writes (line.local i (toLoad bs)) h = refl
+writes (line.local i (toLoad bs e)) h = refl
 writes (line.local i (toStatus s)) h = refl
 writes (line.local i (toWish w)) h = refl
 writes (line.drain b) h = refl
@@ -119,7 +119,7 @@ pub fairs : (c : Action) → Every (FairCall {L = papers} (λ f. f < frames)) (c
 fairs (put f) = puts-fair f
 fairs (hop i) = (tt, tt)
 fairs take = (tt, tt)
-fairs (load i bs) = (tt, tt)
+fairs (load i bs e) = (tt, tt)
 fairs (status i s) = (tt, tt)
 fairs (wish i w) = (tt, tt)
 fairs (drain b) = (tt, tt)

@@ -16,6 +16,7 @@ use Rattle.frame.specs.declared.Encoded.the-variants as encoder
 use Rattle.frame.specs.Coding.{decodeOf, inList, encodeOf}
 use Rattle.frame.proofs.Laws.{decode-encode, encode-decode, kind-zero}
 use Rattle.device.specs.Take.{takes}
+use Rattle.device.proofs.Sentences.{end-only-asked}
 use Rattle.device.specs.declared.Device.{Device}
 use Rattle.area.specs.Sizes.{depth, linkSize, linkAt}
 use Rattle.area.specs.Link.{linkOf}
@@ -34,13 +35,15 @@ use Rattle.coding.specs.Coding.{decodedAs, decodeAnswer, encodedAs, encodeAnswe
 use Rattle.coding.specs.declared.DecodeAnswer.{DecodeAnswer}
 use Rattle.coding.specs.declared.EncodeAnswer.{EncodeAnswer}
 use Rattle.calls.specs.SetUp.{poweredOn}
-use Rattle.saved.specs.Saved.{saved, contents}
+use Rattle.saved.specs.Saved.{saved}
+use Rattle.saved.specs.Older.{opened}
 use Rattle.saved.specs.Calls.{saveOf, openOf}
 use Rattle.saved.proofs.Laws as saved-laws
 use Rattle.demands.specs.Calls.{Byte, numbers, hop, owes, save, onArea, setUp, opens, encode, Answer, plain}
 use Rattle.demands.specs.Calls.{hopped, owing, saving, decoded, encoded, told, acts, pil}
 use Rattle.demands.specs.Conditions.{devicesAt, due}
 use Rattle.demands.specs.Demands.{CanHop, ruled, recordTaken, linkLess, hopLeaves, hopsOwed, Demand2, SavedLoops}
+use Rattle.demands.specs.Demands.{EndByChoice}
 use Rattle.demands.proofs.Away.{whole, save-leaves, open-leaves}
 use Rattle.demands.proofs.Tests.{size-is}
 use Rattle.demands.proofs.First.{outside, demand-1, sets-up}
@@ -140,7 +143,7 @@ saved-out out a z =
     ap (λ (o : After ℕ). after (saving (o .answer) (o .area)) a) (whole k (save-leaves a (numbers out) k))
 
 opened-as : (s : List Byte) (a : List ℕ) → due (opens s) a ≡ 0 →
-    pil (opens s) a ≡ after (plain 0) (contents (numbers s))
+    pil (opens s) a ≡ after (plain 0) (opened (numbers s))
 opened-as s a z =
     let k : openOf a (numbers s) .answer ≡ 0 = demand-1 .by-table (opens s) a ∙ z in
     ap (λ (o : After ℕ). told plain o) (whole k (open-leaves a (numbers s) k))
@@ -191,6 +194,10 @@ saved-loops =
       open-after-save = saved-laws.open-after-save;
       open-over = saved-laws.open-over;
       one-form = saved-laws.one-form;
+      old-form = saved-laws.old-form;
       save-opened = saved-laws.save-opened;
       saved-once = saved-laws.saved-once;
     }
+
+pub end-by-choice : EndByChoice
+end-by-choice = record { only-asked = end-only-asked; old-opens = saved-laws.old-opens }

@@ -9,11 +9,11 @@ use native.Mathlib.Omega.{arith}
 use lib.Dec.{eqb, ltb}
 use borrow.Author.Tests.{eq-eqb, ne-eqb, ltb-true, eqb-true, eqb-false}
 use Rattle.frame.specs.Messages.{frames}
-use Rattle.record_local.specs.Local.{loads, setsStatus, wishes}
+use Rattle.record_local.specs.Local.{setsStatus, wishes}
 use Rattle.area.specs.Loop.{Loop, areaOf, Sound-loop}
 use Rattle.area.proofs.Laws.{loop-back, area-sound}
 use Rattle.calls.specs.Outcome.{Outcome, refuse, done, After, after, afterOf, callOf, callWith, reads}
-use Rattle.calls.specs.Calls.{refusal, noHop, noTake, putIn, takeIn, hopIn, localIn}
+use Rattle.calls.specs.Calls.{refusal, noHop, noTake, putIn, takeIn, hopIn, localIn, loadIn}
 use Rattle.calls.specs.Drain.{noDrain, drainIn}
 use Rattle.calls.specs.Owed.{noOwed, owedIn}
 use Rattle.calls.specs.declared.HopAnswer.{HopAnswer}
@@ -34,7 +34,7 @@ use Rattle.demands.specs.Calls.{plain, hopped, taken, drained, owing, sa
 use Rattle.demands.specs.Histories.{call, Got, got, if, putBy, takenBy, handedBy, hopsBy, refusedBy, Local}
 use Rattle.demands.specs.Histories.{toLoad, toStatus, toWish, papers, calls, hopSeen, callSeen, turnSeen, isDrain}
 use Rattle.demands.proofs.Bridge.{toLoop, Alike, handedIn, put-alike, take-alike}
-use Rattle.demands.proofs.Bridge.{hop-alike, local-alike}
+use Rattle.demands.proofs.Bridge.{hop-alike, local-alike, load-alike}
 use Rattle.demands.proofs.Drains.{drainAnswer, drained-alike}
 
 -- ---- on the loop
@@ -48,7 +48,7 @@ abbrev pub onLoop : Action → Loop → Loop × Answer
 onLoop (put f) m = settle plain refusal m (putIn f m)
 onLoop (hop i) m = settle hopped noHop m (hopIn i m)
 onLoop take m = settle taken noTake m (takeIn m)
-onLoop (load i bs) m = settle plain refusal m (localIn (λ d. loads d (numbers bs)) i m)
+onLoop (load i bs e) m = settle plain refusal m (loadIn i (numbers bs) e m)
 onLoop (status i s) m = settle plain refusal m (localIn (λ d. setsStatus d (s .value)) i m)
 onLoop (wish i w) m = settle plain refusal m (localIn (λ d. wishes d w) i m)
 onLoop (drain b) m = settle drained noDrain m (drainIn b m)
@@ -76,7 +76,7 @@ module _ (m : Loop) (s : Sound-loop m) where
   acts-on (put f) = settled plain refusal (putIn f)
   acts-on (hop i) = settled hopped noHop (hopIn i)
   acts-on take = settled taken noTake takeIn
-  acts-on (load i bs) = settled plain refusal (localIn (λ d. loads d (numbers bs)) i)
+  acts-on (load i bs e) = settled plain refusal (loadIn i (numbers bs) e)
   acts-on (status i x) = settled plain refusal (localIn (λ d. setsStatus d (x .value)) i)
   acts-on (wish i w) = settled plain refusal (localIn (λ d. wishes d w) i)
   acts-on (drain b) = settled drained noDrain (drainIn b)
@@ -91,7 +91,7 @@ abbrev pub fair : Action → Bool
 fair (put f) = ltb f frames
 fair (hop i) = true
 fair take = true
-fair (load i bs) = true
+fair (load i bs e) = true
 fair (status i s) = true
 fair (wish i w) = true
 fair (drain b) = true
@@ -389,10 +389,10 @@ follows (hop i) l = hop-follows i l (hopIn i (toLoop l)) (line.hopAt l i)
     (rw (same-flat papers .same-hop l i) at (hop-alike i (flat.flat l)))
 follows take l = take-follows l (takeIn (toLoop l)) (line.takeOut l)
     (rw (same-flat papers .same-take l) at (take-alike (flat.flat l)))
-follows (load i bs) l =
-    local-follows (load i bs) i (toLoad bs) refl (λ k. refl) (λ j k. refl) (λ j k. refl) l _
-    (line.callAt l i (toLoad bs))
-    (rw (same-flat papers .same-call l i (toLoad bs)) at (local-alike (toLoad bs) i (flat.flat l)))
+follows (load i bs e) l =
+    local-follows (load i bs e) i (toLoad bs e) refl (λ k. refl) (λ j k. refl) (λ j k. refl) l _
+    (line.callAt l i (toLoad bs e))
+    (rw (same-flat papers .same-call l i (toLoad bs e)) at (load-alike i bs e (flat.flat l)))
 follows (status i s) l =
     local-follows (status i s) i (toStatus s) refl (λ k. refl) (λ j k. refl) (λ j k. refl) l _
     (line.callAt l i (toStatus s))

@@ -22,11 +22,11 @@ use Rattle.area.proofs.Laws.{area-back, loop-sound}
 use Rattle.calls.specs.Outcome.{Outcome, done, After, after, callOf, callWith}
 use Rattle.calls.specs.Calls.{refusal, noTake, putIn, takeIn, localIn}
 use Rattle.calls.specs.declared.TakeAnswer.{TakeAnswer}
-use Rattle.calls.proofs.Outcomes.{take-done}
-use Rattle.demands.specs.Calls.{put, take, plain, taken, acts}
+use Rattle.calls.proofs.Outcomes.{load-chosen, take-done}
+use Rattle.demands.specs.Calls.{numbers, put, take, plain, taken, told, acts}
 use Rattle.demands.specs.Histories.{Local, toLoad, toStatus, toWish, calledBy, localCall}
 use Rattle.demands.specs.Demands.{Judged}
-use Rattle.demands.proofs.Tests.{size-is}
+use Rattle.demands.proofs.Tests.{size-is, load-choice}
 
 -- new bytes of a width, from a place on
 pub spliced : (at w : ℕ) (new a : List ℕ) → length new ≡ w → splice at new a ≡ spliceOf at w new a
@@ -90,10 +90,11 @@ module _ (a : List ℕ) (j : Judged a) where
   pub local-call-leaves : (c : Local) (i : ℕ) → i < countIn a → calledBy c (device (loopOf a) i) .refusal ≡ 0 →
       acts (localCall i c) a ≡ after (plain 0)
       (splice (recordAt i) (recordOf (calledBy c (device (loopOf a) i) .device)) a)
-  local-call-leaves c i h z = go c (local-leaves c i h z)
+  local-call-leaves c i h z = go c z (local-leaves c i h z)
     where
-      go : (c : Local) {x : List ℕ} → callOf refusal (localIn (calledBy c) i) a ≡ after 0 x →
-          acts (localCall i c) a ≡ after (plain 0) x
-      go (toLoad bs) e = ap (λ (o : After ℕ). after (plain (o .answer)) (o .area)) e
-      go (toStatus s) e = ap (λ (o : After ℕ). after (plain (o .answer)) (o .area)) e
-      go (toWish w) e = ap (λ (o : After ℕ). after (plain (o .answer)) (o .area)) e
+      go : (c : Local) {x : List ℕ} → calledBy c (device (loopOf a) i) .refusal ≡ 0 →
+          callOf refusal (localIn (calledBy c) i) a ≡ after 0 x → acts (localCall i c) a ≡ after (plain 0) x
+      go (toLoad bs e) z q =
+          ap (told plain) (load-chosen a i (numbers bs) e (load-choice (device (loopOf a) i) (numbers bs) e z) ∙ q)
+      go (toStatus s) z q = ap (told plain) q
+      go (toWish w) z q = ap (told plain) q

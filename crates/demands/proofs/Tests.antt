@@ -1,6 +1,6 @@
 -- The tests of each call on a loop, as the conditions of the table that concern it.
 use Prim.Native.Nat.{ℕ, zero, suc}
-use mathlib.Core.Path.{_≡_, refl, _∙_}
+use mathlib.Core.Path.{_≡_, refl, sym, _∙_}
 use mathlib.Core.Bool.{Bool, true, false, not, cond}
 use mathlib.Core.List.{List}
 use native.Mathlib.Omega.{arith}
@@ -9,7 +9,7 @@ use lib.Dec.{eqb, ltb, leb}
 use borrow.Author.Tests.{eqb-true, eqb-false}
 use Rattle.frame.specs.Messages.{frames}
 use Rattle.device.specs.Choose.{choose}
-use Rattle.device.specs.Device.{has}
+use Rattle.device.specs.Device.{isChoice, has}
 use Rattle.device.specs.Change.{loading}
 use Rattle.record_local.specs.Local.{refused, accepted, loads, setsStatus, wishes}
 use Rattle.device.specs.declared.Device.{Device}
@@ -26,12 +26,12 @@ use Rattle.area.specs.declared.Place.{Place}
 use Rattle.area.proofs.Parts.{length-parts}
 use Rattle.calls.specs.Outcome.{Outcome, refuse, done}
 use Rattle.calls.specs.Calls.{atPlace, ofOldest, intoRoom, refusal, hopAnswer, sentBy, putIn, takenFrom, takeIn}
-use Rattle.calls.specs.Calls.{passes, passesOn, hopFrom, hopIn, calledIn, calledAt, localIn}
+use Rattle.calls.specs.Calls.{passes, passesOn, hopFrom, hopIn, calledIn, calledAt, localIn, loadIn}
 use Rattle.calls.specs.Drain.{onPlace, handedTo, turned, highest, drainFrom}
 use Rattle.calls.specs.declared.HopAnswer.{HopAnswer}
 use Rattle.calls.specs.declared.TakeAnswer.{TakeAnswer}
 use Rattle.calls.specs.declared.DrainAnswer.{DrainAnswer}
-use Rattle.demands.proofs.Refusals.{Told, no, yes, turned-lt, told-cond, none-is, some-is}
+use Rattle.demands.proofs.Refusals.{Told, no, yes, leb-turned, turned-lt, told-cond, none-is, some-is}
 
 -- byte 0 is how many devices there are
 pub size-is : (a : List ℕ) → size (loopOf a) ≡ countIn a
@@ -123,17 +123,30 @@ passed-refusal true x y = refl
 passed-refusal false x y = refl
 
 module _ (d : Device) where
-  pub load-refusal : (bs : List ℕ) →
-      loads d bs .refusal ≡ cond (not (has d 2)) 7 (cond (ltb 32 (length bs)) 8 (cond (eqb (d .talker) 2) 9 0))
+  abbrev loadRefusal : List ℕ → ℕ
+  loadRefusal bs = cond (not (has d 2)) 7 (cond (ltb 32 (length bs)) 8 (cond (eqb (d .talker) 2) 9 0))
+
+  load-refusal : (bs : List ℕ) (e : ℕ) → loads d bs e .refusal ≡ cond (isChoice e) (loadRefusal bs) 2
   unfolding loads
-  load-refusal bs =
-      chosen-refusal (has d 2) _ _
+  load-refusal bs e =
+      passed-refusal (isChoice e) _ _
       ∙ rw (
+        chosen-refusal (has d 2)
+            (choose (ltb 32 (length bs)) (refused 8 d)
+            (choose (eqb (d .talker) 2) (refused 9 d) (accepted (loading d bs e)))) (refused 7 d),
         passed-refusal (ltb 32 (length bs)) (refused 8 d)
-            (choose (eqb (d .talker) 2) (refused 9 d) (accepted (loading d bs))),
+            (choose (eqb (d .talker) 2) (refused 9 d) (accepted (loading d bs e))),
         passed-refusal (eqb (d .talker) 2)
-            (refused 9 d) (accepted (loading d bs)),
+            (refused 9 d) (accepted (loading d bs e)),
       )
+
+  -- a load that is not refused has a choice
+  pub load-choice : (bs : List ℕ) (e : ℕ) → loads d bs e .refusal ≡ 0 → isChoice e ≡ true
+  load-choice bs e z = go (isChoice e) (sym (load-refusal bs e) ∙ z)
+    where
+      go : (t : Bool) → cond t (loadRefusal bs) 2 ≡ 0 → t ≡ true
+      go true q = refl
+      go false q = absurd (omega arith)
 
   pub status-refusal : (s : ℕ) → setsStatus d s .refusal ≡ cond (not (has d 4)) 7 0
   unfolding setsStatus
@@ -142,6 +155,23 @@ module _ (d : Device) where
   pub wish-refusal : (w : ℕ) → wishes d w .refusal ≡ cond (not (has d 128)) 7 0
   unfolding wishes
   wish-refusal w = chosen-refusal (has d 128) _ _
+
+-- load: the choice before the device's number
+pub load-told : (i : ℕ) (bs : List ℕ) (e : ℕ) (l : Loop) →
+    Told ℕ refusal (loadIn i bs e l) (cond (ltb 1 e) 2 (cond (leb (size l) i) 3 (loadRefusal (device l i) bs)))
+unfolding loadIn
+load-told i bs e l = rw (leb-turned 1 e) (go (ltb 1 e) (leb-turned 1 e))
+  where
+    go : (t : Bool) → isChoice e ≡ not t →
+        Told ℕ refusal (cond (not t) (localIn (λ d. loads d bs e) i l) (refuse 2))
+        (cond t 2 (cond (leb (size l) i) 3 (loadRefusal (device l i) bs)))
+    go true q = no 2 (λ z. omega arith)
+    go false q = rw (load-refusal (device l i) bs e, q) at (local-told (λ d. loads d bs e) i l)
+
+-- so one without a choice is refused by every loop
+pub load-untold : (i : ℕ) (bs : List ℕ) (e : ℕ) (l : Loop) → isChoice e ≡ false →
+    Told ℕ refusal (localIn (λ d. loads d bs e) i l) (cond (leb (size l) i) 3 2)
+load-untold i bs e l q = rw (load-refusal (device l i) bs e, q) at (local-told (λ d. loads d bs e) i l)
 
 -- ---- the drain refuses nothing
 

@@ -18,7 +18,7 @@ use Rattle.calls.specs.Outcome.{After}
 use Rattle.calls.specs.SetUp.{itemsOf, poweredOn}
 use Rattle.calls.proofs.Powered.{set-up-sound}
 use Rattle.saved.specs.Calls.{openOf}
-use Rattle.saved.proofs.Laws.{contents-bytes}
+use Rattle.saved.proofs.Laws.{opened-bytes}
 use Rattle.order.specs.Line as line
 use Rattle.order.specs.Flat as flat
 use Rattle.order.specs.History as told
@@ -77,7 +77,7 @@ fair-all [] u = tt
 fair-all (line.put f ∷ cs) u = (lt-ltb f frames (u .0), fair-all cs (u .1))
 fair-all (line.hop i ∷ cs) u = (refl, fair-all cs (u .1))
 fair-all (line.take ∷ cs) u = (refl, fair-all cs (u .1))
-fair-all (line.local i (toLoad bs) ∷ cs) u = (refl, fair-all cs (u .1))
+fair-all (line.local i (toLoad bs e) ∷ cs) u = (refl, fair-all cs (u .1))
 fair-all (line.local i (toStatus s) ∷ cs) u = (refl, fair-all cs (u .1))
 fair-all (line.local i (toWish w) ∷ cs) u = (refl, fair-all cs (u .1))
 fair-all (line.drain b ∷ cs) u = (refl, fair-all cs (u .1))
@@ -258,8 +258,8 @@ opening-judged : (a : List ℕ) (s : List Byte) → due (opens s) a ≡ 0 → Ju
 opening-judged a s h =
     let z : openOf a (numbers s) .answer ≡ 0 = demand-1 .by-table (opens s) a ∙ h in
     record {
-      bytes = rw (open-leaves a (numbers s) z) (contents-bytes (numbers s) (numbers-bytes s));
-      sound = opened-judged a (numbers s) z;
+      bytes = rw (open-leaves a (numbers s) z) (opened-bytes (numbers s) (numbers-bytes s));
+      sound = opened-judged a (numbers s) (numbers-bytes s) z;
     }
 
 pub starts-judged : StartsJudged

@@ -11,9 +11,9 @@ use Rattle.area.specs.Lookup.{blankOf}
 use Rattle.area.proofs.Areas.{sized, judge-zero, is-shaped}
 use Rattle.area.proofs.Blank.{blank-sound}
 use Rattle.area.proofs.Laws.{area-sound, loop-back}
-use Rattle.record_local.specs.Local.{loads, setsStatus, wishes}
+use Rattle.record_local.specs.Local.{setsStatus, wishes}
 use Rattle.calls.specs.Outcome.{After, after, reads}
-use Rattle.calls.specs.Calls.{refusal, putIn, noTake, takeIn, noHop, hopIn, localIn}
+use Rattle.calls.specs.Calls.{refusal, putIn, noTake, takeIn, noHop, hopIn, localIn, loadIn}
 use Rattle.calls.specs.Drain.{noDrain, drainIn}
 use Rattle.calls.specs.Owed.{noOwed, owedIn}
 use Rattle.calls.specs.declared.OwedAnswer.{OwedAnswer}
@@ -40,7 +40,7 @@ acts-alike : (c : Action) (a : List ℕ) → FewIn formerMost a → actsWith for
 acts-alike (put f) a few = ap (told plain) (agree .called _ refusal (putIn f) a few)
 acts-alike (hop i) a few = ap (told hopped) (agree .called _ noHop (hopIn i) a few)
 acts-alike take a few = ap (told taken) (agree .called _ noTake takeIn a few)
-acts-alike (load i bs) a few = ap (told plain) (agree .called _ refusal (localIn (λ d. loads d (numbers bs)) i) a few)
+acts-alike (load i bs e) a few = ap (told plain) (agree .called _ refusal (loadIn i (numbers bs) e) a few)
 acts-alike (status i s) a few =
     ap (told plain) (agree .called _ refusal (localIn (λ d. setsStatus d (s .value)) i) a few)
 acts-alike (wish i w) a few = ap (told plain) (agree .called _ refusal (localIn (λ d. wishes d w) i) a few)

@@ -2,10 +2,10 @@
 -- that the contracts of the exported functions cite.
 use Prim.Native.Nat.{ℕ, _<_}
 use mathlib.Core.List.{List, map}
-use Rattle.record_local.specs.Local.{loads, setsStatus, wishes}
+use Rattle.record_local.specs.Local.{setsStatus, wishes}
 use Rattle.area.specs.Sizes.{mostDevices}
 use Rattle.calls.specs.Outcome.{After, after, callWith, reads}
-use Rattle.calls.specs.Calls.{refusal, putIn, noTake, takeIn, noHop, hopIn, localIn}
+use Rattle.calls.specs.Calls.{refusal, putIn, noTake, takeIn, noHop, hopIn, localIn, loadIn}
 use Rattle.calls.specs.Drain.{noDrain, drainIn}
 use Rattle.calls.specs.Owed.{noOwed, owedIn}
 use Rattle.calls.specs.SetUp.{setUpWith}
@@ -31,7 +31,8 @@ pub data Action : Type 0 where
   put : ℕ → Action
   hop : ℕ → Action
   take : Action
-  load : ℕ → List Byte → Action
+  -- with the choice how the last byte goes out; pil_load_end is the load with 1, as its contract says
+  load : ℕ → List Byte → ℕ → Action
   status : ℕ → Byte → Action
   wish : ℕ → ℕ → Action
   drain : ℕ → Action
@@ -69,7 +70,7 @@ abbrev pub actsWith : ℕ → Action → List ℕ → After Answer
 actsWith limit (put f) a = told plain (callWith limit refusal (putIn f) a)
 actsWith limit (hop i) a = told hopped (callWith limit noHop (hopIn i) a)
 actsWith limit take a = told taken (callWith limit noTake takeIn a)
-actsWith limit (load i bs) a = told plain (callWith limit refusal (localIn (λ d. loads d (numbers bs)) i) a)
+actsWith limit (load i bs e) a = told plain (callWith limit refusal (loadIn i (numbers bs) e) a)
 actsWith limit (status i s) a = told plain (callWith limit refusal (localIn (λ d. setsStatus d (s .value)) i) a)
 actsWith limit (wish i w) a = told plain (callWith limit refusal (localIn (λ d. wishes d w) i) a)
 actsWith limit (drain b) a = told drained (callWith limit noDrain (drainIn b) a)
@@ -108,7 +109,7 @@ abbrev pub bareAction : Action → ℕ → Answer
 bareAction (put f) k = plain k
 bareAction (hop i) k = hopped (noHop k)
 bareAction take k = taken (noTake k)
-bareAction (load i bs) k = plain k
+bareAction (load i bs e) k = plain k
 bareAction (status i s) k = plain k
 bareAction (wish i w) k = plain k
 bareAction (drain b) k = drained (noDrain k)

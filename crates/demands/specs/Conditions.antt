@@ -1,18 +1,19 @@
 -- The conditions of 01's refusal table, each a test of a call and an area, written from the table row by row, with what
--- 02 adds: g to the fourth, a to the first two and a tenth.
+-- 02 adds: g to the fourth, a and h to the first two and a tenth.
 use Prim.Native.Nat.{ℕ, zero, suc, _*_}
 use mathlib.Core.List.{List, [], _∷_}
 use mathlib.Core.Bool.{Bool, false, not, cond, _&&_, _||_}
-use lib.ListN.{length}
+use lib.ListN.{length, getD}
 use lib.Dec.{eqb, ltb, leb}
 use Rattle.frame.specs.Messages.{frames}
 use Rattle.frame.specs.Decoding.{hasC1, offsetsOf}
 use Rattle.device.specs.Device.{sendData, status as sendStatus, serviceRequest, sendingData, mostData, has}
+use Rattle.device.specs.Change.{choice}
 use Rattle.record.specs.Sound.{allowed}
 use Rattle.area.specs.Sizes.{depth, mostDevices, itemSize, areaSize}
 use Rattle.area.specs.Parts.{parts, all}
 use Rattle.area.specs.Loop.{countIn, loopOf, sound, device, link}
-use Rattle.saved.specs.Saved.{savedSize, savedCount, formed, contents}
+use Rattle.saved.specs.Saved.{body, savedSize, savedCount, edition, savedDevices, formed, contents}
 use Rattle.demands.specs.Calls.{numbers, Action, put, hop, take, load, status, wish, drain, owes, save, Call}
 use Rattle.demands.specs.Calls.{onArea, setUp, opens, decode, encode}
 
@@ -29,7 +30,7 @@ abbrev pub badOutput : Action → List ℕ → Bool
 badOutput (put f) a = false
 badOutput (hop i) a = false
 badOutput take a = false
-badOutput (load i bs) a = false
+badOutput (load i bs e) a = false
 badOutput (status i s) a = false
 badOutput (wish i w) a = false
 badOutput (drain b) a = false
@@ -47,12 +48,28 @@ Shape (opens s) a = not (eqb (length a) (areaSize (savedCount (numbers s))))
 Shape (decode f) a = false
 Shape (encode k o c) a = false
 
--- 2, Unsound: the contents aren't sound; at set up an item isn't allowed, at an opening what was saved isn't sound, and
--- the contents aren't looked at
+-- the choice of a load is neither 0 nor 1
+abbrev pub noChoice : Action → Bool
+noChoice (put f) = false
+noChoice (hop i) = false
+noChoice take = false
+noChoice (load i bs e) = ltb 1 e
+noChoice (status i s) = false
+noChoice (wish i w) = false
+noChoice (drain b) = false
+noChoice owes = false
+noChoice (save out) = false
+
+-- a device of an old save, one with 0 in kind 1's byte 1, has a choice
+abbrev pub oldWithChoice : List ℕ → Bool
+oldWithChoice s = eqb (edition s) 0 && not (all (λ r. eqb (getD (body r) choice 0) 0) (savedDevices s))
+
+-- 2, Unsound: the contents aren't sound, or a load's choice isn't one; at set up an item isn't allowed, at an opening
+-- what was saved isn't sound, and the contents aren't looked at
 abbrev pub Unsound : Call → List ℕ → Bool
-Unsound (onArea c) a = not (sound a)
+Unsound (onArea c) a = noChoice c || not (sound a)
 Unsound (setUp items) a = not (all allowed (parts itemSize (devicesAt (length a)) (numbers items)))
-Unsound (opens s) a = not (sound (contents (numbers s)))
+Unsound (opens s) a = not (sound (contents (numbers s))) || oldWithChoice (numbers s)
 Unsound (decode f) a = false
 Unsound (encode k o c) a = false
 
@@ -61,7 +78,7 @@ abbrev pub NoDevice : Action → List ℕ → Bool
 NoDevice (put f) a = false
 NoDevice (hop i) a = leb (countIn a) i
 NoDevice take a = false
-NoDevice (load i bs) a = leb (countIn a) i
+NoDevice (load i bs e) a = leb (countIn a) i
 NoDevice (status i s) a = leb (countIn a) i
 NoDevice (wish i w) a = leb (countIn a) i
 NoDevice (drain b) a = false
@@ -77,7 +94,7 @@ abbrev pub BadFrame : Call → Bool
 BadFrame (onArea (put f)) = leb frames f
 BadFrame (onArea (hop i)) = false
 BadFrame (onArea take) = false
-BadFrame (onArea (load i bs)) = false
+BadFrame (onArea (load i bs e)) = false
 BadFrame (onArea (status i s)) = false
 BadFrame (onArea (wish i w)) = false
 BadFrame (onArea (drain b)) = false
@@ -100,7 +117,7 @@ abbrev pub Empty : Action → List ℕ → Bool
 Empty (put f) a = false
 Empty (hop i) a = holdsNone i a
 Empty take a = holdsNone (countIn a) a
-Empty (load i bs) a = false
+Empty (load i bs e) a = false
 Empty (status i s) a = false
 Empty (wish i w) a = false
 Empty (drain b) a = false
@@ -112,7 +129,7 @@ abbrev pub Full : Action → List ℕ → Bool
 Full (put f) a = holdsFour 0 a
 Full (hop i) a = holdsFour (suc i) a
 Full take a = false
-Full (load i bs) a = false
+Full (load i bs e) a = false
 Full (status i s) a = false
 Full (wish i w) a = false
 Full (drain b) a = false
@@ -128,7 +145,7 @@ abbrev pub NoAbility : Action → List ℕ → Bool
 NoAbility (put f) a = false
 NoAbility (hop i) a = false
 NoAbility take a = false
-NoAbility (load i bs) a = lacks i sendData a
+NoAbility (load i bs e) a = lacks i sendData a
 NoAbility (status i s) a = lacks i sendStatus a
 NoAbility (wish i w) a = lacks i serviceRequest a
 NoAbility (drain b) a = false
@@ -140,7 +157,7 @@ abbrev pub TooLong : Action → Bool
 TooLong (put f) = false
 TooLong (hop i) = false
 TooLong take = false
-TooLong (load i bs) = ltb mostData (length (numbers bs))
+TooLong (load i bs e) = ltb mostData (length (numbers bs))
 TooLong (status i s) = false
 TooLong (wish i w) = false
 TooLong (drain b) = false
@@ -152,7 +169,7 @@ abbrev pub Busy : Action → List ℕ → Bool
 Busy (put f) a = false
 Busy (hop i) a = false
 Busy take a = false
-Busy (load i bs) a = eqb (device (loopOf a) i .talker) sendingData
+Busy (load i bs e) a = eqb (device (loopOf a) i .talker) sendingData
 Busy (status i s) a = false
 Busy (wish i w) a = false
 Busy (drain b) a = false

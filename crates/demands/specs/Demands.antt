@@ -1,10 +1,10 @@
--- The three demands on the model, and what 02 asks of the hops owed (k), of saved loops (a) and of the limit on devices
--- (j), over the very definitions that the contracts of the exported functions cite.
+-- The three demands on the model, and what 02 asks of the hops owed (k), of saved loops (a), of the limit on devices
+-- (j) and of END by choice (h), over the very definitions that the contracts of the exported functions cite.
 -- It leans on Calls, Conditions, Drains, Histories (the crate teeth says what it shuts out); frame's Messages,
--- Decoding, Coding, Laws; coding's Coding; device's Sent, and Take with the rules that it names; record_local's Local;
--- record's Record, Parts, Sound, Fits; area's Sizes, Parts, Link, Loop, Lookup; calls' Outcome, Calls, Drain, SetUp,
--- Owed; saved's Saved, Calls, Laws; limits' Limits; order's Line, Flat, History, RightRound, Through, Owed, which have
--- names of their own.
+-- Decoding, Coding, Laws; coding's Coding; device's Sent, Sentences, and Take with the rules that it names;
+-- record_local's Local; record's Record, Parts, Sound, Fits; area's Sizes, Parts, Link, Loop, Lookup; calls'
+-- Outcome, Calls, Drain, SetUp, Owed; saved's Saved, Older, Calls, Laws; limits' Limits; order's Line, Flat,
+-- History, RightRound, Through, Owed, which have names of their own.
 use Prim.Native.Nat.{ℕ, suc, _+_, _*_, _≤_, _<_}
 use mathlib.Core.Path.{_≡_}
 use mathlib.Core.List.{List, [], _∷_, _++_, tail}
@@ -14,6 +14,7 @@ use Rattle.frame.specs.Decoding.{message, decoded as decoding, frameOf}
 use Rattle.frame.specs.Laws.{TableInOrder, DecodeEncode, EncodeDecode, KindZero}
 use Rattle.device.specs.Take.{takes}
 use Rattle.device.specs.Sent.{Sent}
+use Rattle.device.specs.Sentences.{EndOnlyAsked}
 use Rattle.record.specs.Record.{recordOf}
 use Rattle.record.specs.Parts.{splice}
 use Rattle.record.specs.Fits.{Bytes}
@@ -24,8 +25,9 @@ use Rattle.area.specs.Lookup.{blankOf}
 use Rattle.calls.specs.Outcome.{After, after}
 use Rattle.calls.specs.Calls.{hopAnswer}
 use Rattle.calls.specs.SetUp.{poweredOn}
-use Rattle.saved.specs.Saved.{saved, contents}
-use Rattle.saved.specs.Laws.{SavedLong, OpenAfterSave, OpenOver, OneForm, SaveOpened, SavedOnce}
+use Rattle.saved.specs.Saved.{saved}
+use Rattle.saved.specs.Older.{opened}
+use Rattle.saved.specs.Laws.{SavedLong, OpenAfterSave, OpenOver, OneForm, OldForm, SaveOpened, SavedOnce, OldOpens}
 use Rattle.limits.specs.Limits.{FewIn, FewItems, FewSaved, Agree, RefusesMore}
 use Rattle.order.specs.History.{callsIn, hopsIn, sumOver}
 use Rattle.order.specs.Owed.{owed}
@@ -116,11 +118,11 @@ pub record Obeys (model : Call → List ℕ → After Answer) : Type 0 where
   pub sets-up : (items : List Byte) (a : List ℕ) → due (setUp items) a ≡ 0 →
       model (setUp items) a ≡ after (plain 0) (areaOf (poweredOn (devicesAt (length a)) (numbers items)))
   -- a save writes the area's saved form, and no byte of the area changes; an opening that is not refused leaves what
-  -- the save holds;
+  -- the save holds, or an old one's upgrade;
   pub saves : (out : List Byte) (a : List ℕ) → due (onArea (save out)) a ≡ 0 →
       model (onArea (save out)) a ≡ after (saving 0 (saved a)) a
   pub opening : (s : List Byte) (a : List ℕ) → due (opens s) a ≡ 0 →
-      model (opens s) a ≡ after (plain 0) (contents (numbers s))
+      model (opens s) a ≡ after (plain 0) (opened (numbers s))
   -- the decoder answers a frame's kind, offset and C1, and the encoder, where it is not refused, the frame of these.
   pub decodes : (f : ℕ) (a : List ℕ) → f < frames →
       let m = decoding f in
@@ -274,12 +276,13 @@ NeverStuck = (a : List ℕ) (j : ℕ) → Judged a → (link (loopOf a) j ≡ []
 -- ---- Saved loops (02, a)
 
 -- Opened in any area of as many bytes, a save gives back the area that was saved; and a save that opens is the one
--- saved form of what it opens to.
+-- saved form of what it opens to, or its upgrade is (02, h).
 pub record SavedLoops : Type 0 where
   pub saved-long : SavedLong
   pub open-after-save : OpenAfterSave
   pub open-over : OpenOver
   pub one-form : OneForm
+  pub old-form : OldForm
   pub save-opened : SaveOpened
   pub saved-once : SavedOnce
 
@@ -307,3 +310,11 @@ pub record ThirtyOne : Type 1 where
   pub called-as-before : (c : Call) (a : List ℕ) → FewFor formerMost c a → pilWith formerMost c a ≡ pil c a
   -- A reader by that limit refuses what has more with 10, and the area that it was lent stays as it was.
   pub refused-before : RefusesMore formerMost
+
+-- ---- END by choice (02, h). What a load stores, demand 2 says; the refusal of other numbers, demand 1.
+
+pub record EndByChoice : Type 0 where
+  -- A device whose choice is not END sends one only where it passes one on.
+  pub only-asked : EndOnlyAsked
+  -- Saves written before loads took a choice still open, with END chosen by each device with data.
+  pub old-opens : OldOpens

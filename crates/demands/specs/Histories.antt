@@ -72,7 +72,7 @@ abbrev pub putBy : Action → Answer → List ℕ
 putBy (put f) r = if (eqb (refusalIn r) 0) f
 putBy (hop i) r = []
 putBy take r = []
-putBy (load i bs) r = []
+putBy (load i bs e) r = []
 putBy (status i s) r = []
 putBy (wish i w) r = []
 putBy (drain b) r = []
@@ -95,7 +95,7 @@ abbrev pub hopper : Action → ℕ
 hopper (put f) = 0
 hopper (hop i) = i
 hopper take = 0
-hopper (load i bs) = 0
+hopper (load i bs e) = 0
 hopper (status i s) = 0
 hopper (wish i w) = 0
 hopper (drain b) = 0
@@ -169,18 +169,18 @@ module _ (a : List ℕ) (ss : List Step) where
 
 -- a local call, and what it makes of a device
 pub data Local : Type 0 where
-  toLoad : List Byte → Local
+  toLoad : List Byte → ℕ → Local
   toStatus : Byte → Local
   toWish : ℕ → Local
 
 abbrev pub calledBy : Local → Device → Called
-calledBy (toLoad bs) d = loads d (numbers bs)
+calledBy (toLoad bs e) d = loads d (numbers bs) e
 calledBy (toStatus s) d = setsStatus d (s .value)
 calledBy (toWish w) d = wishes d w
 
 -- the same, made by device i of an area
 abbrev pub localCall : ℕ → Local → Action
-localCall i (toLoad bs) = load i bs
+localCall i (toLoad bs e) = load i bs e
 localCall i (toStatus s) = status i s
 localCall i (toWish w) = wish i w
 
@@ -214,7 +214,7 @@ abbrev pub calls : Action → List (line.Call papers)
 calls (put f) = if (ltb f frames) (line.put f)
 calls (hop i) = line.hop i ∷ []
 calls take = line.take ∷ []
-calls (load i bs) = line.local i (toLoad bs) ∷ []
+calls (load i bs e) = line.local i (toLoad bs e) ∷ []
 calls (status i s) = line.local i (toStatus s) ∷ []
 calls (wish i w) = line.local i (toWish w) ∷ []
 calls (drain b) = line.drain b ∷ []
@@ -245,7 +245,7 @@ abbrev pub hopSeen : ℕ → Action → Answer → List (Turn papers)
 hopSeen i (put f) r = []
 hopSeen i (hop j) r = if (eqb i j && eqb (refusalIn r) 0) hops
 hopSeen i take r = []
-hopSeen i (load j bs) r = []
+hopSeen i (load j bs e) r = []
 hopSeen i (status j s) r = []
 hopSeen i (wish j w) r = []
 hopSeen i (drain b) r = []
@@ -257,7 +257,7 @@ abbrev pub callSeen : ℕ → Action → Answer → List Local
 callSeen i (put f) r = []
 callSeen i (hop j) r = []
 callSeen i take r = []
-callSeen i (load j bs) r = if (eqb i j && eqb (refusalIn r) 0) (toLoad bs)
+callSeen i (load j bs e) r = if (eqb i j && eqb (refusalIn r) 0) (toLoad bs e)
 callSeen i (status j s) r = if (eqb i j && eqb (refusalIn r) 0) (toStatus s)
 callSeen i (wish j w) r = if (eqb i j && eqb (refusalIn r) 0) (toWish w)
 callSeen i (drain b) r = []
@@ -272,7 +272,7 @@ abbrev pub isDrain : Action → Bool
 isDrain (put f) = false
 isDrain (hop i) = false
 isDrain take = false
-isDrain (load i bs) = false
+isDrain (load i bs e) = false
 isDrain (status i s) = false
 isDrain (wish i w) = false
 isDrain (drain b) = true

@@ -1,4 +1,4 @@
--- The sentences of specs/Sentences.antt, in the paper's order: four are told of every rule (Told), the others follow
+-- The sentences of specs/Sentences.antt, in the paper's order: five are told of every rule (Told), the others follow
 -- from the rule of their frames.
 use Prim.Native.Nat.{ℕ, _-_, _≤_, _<_}
 use mathlib.Core.Path.{_≡_, refl, sym, ap, _∙_}
@@ -24,7 +24,7 @@ use Rattle.device.specs.Data.{agrees, returned, heard, dataOrEnd}
 use Rattle.device.specs.Take.{takes}
 use Rattle.device.specs.Sentences.{ShowsC1, Sending, CommandsGoOn, NoLadIs31, NoTadIs31, ConfiguredPassesAad}
 use Rattle.device.specs.Sentences.{OwnNotHanded, OwnNotPassed, OwnCompared, IdyGoesOn, ServiceShown, C1Kept}
-use Rattle.device.specs.Sentences.{LeavingZeroes}
+use Rattle.device.specs.Sentences.{EndOnlyAsked, LeavingZeroes}
 use Rattle.device.specs.declared.Device.{Device}
 use Rattle.device.specs.Sent.{Sent}
 use Rattle.device.proofs.Classes.{data-frame, idy-frame}
@@ -147,6 +147,9 @@ idy-goes-on =
           (marked-bits d (decoded f) (idy-shows f (i .first) (i .past)));
       same-device = λ d f i. rw (idy-frame d f (i .first) (i .past));
     }
+
+pub end-only-asked : EndOnlyAsked
+end-only-asked d f b c e = told d f .asked b c e
 
 pub service-shown : ServiceShown
 service-shown d f b a s = told d f .shown b a s

@@ -1,21 +1,24 @@
--- What is told of every frame: four sentences of specs/Sentences.antt together, so that the rules are gone through
+-- What is told of every frame: five sentences of specs/Sentences.antt together, so that the rules are gone through
 -- once.
 use Prim.Native.Nat.{ℕ, _+_, _≤_, _<_}
-use mathlib.Core.Path.{_≡_, refl, ap}
+use mathlib.Core.Path.{_≡_, refl, sym, ap, _∙_}
 use mathlib.Core.Logic.{inl, inr, ⊎-elim}
 use mathlib.Core.Bool.{Bool, true}
 use native.Mathlib.Omega.{arith}
 use native.Mathlib.Decide.{decLt}
 use lib.Dec.{eqb, ltb}
+use lib.ListN.{getD}
 use borrow.Author.Tests.{eqb-true, ltb-false}
-use Rattle.frame.specs.declared.Kind.the-variants.{Aad}
+use Rattle.frame.specs.declared.Kind.the-variants.{End, Aad}
 use Rattle.frame.specs.Messages.{kindAt, messages, firstIn, firstOf, codesIn, codesOf}
 use Rattle.frame.specs.Classes.{IsCommand}
-use Rattle.frame.specs.Decoding.{dab, end, hasC1, decoded}
+use Rattle.frame.specs.Decoding.{message, dab, end, hasC1, decoded}
 use Rattle.frame.specs.declared.Message.{Message}
+use Rattle.frame.proofs.Rows.{within-kind}
+use Rattle.frame.proofs.Laws.{idy-kind}
 use Rattle.device.specs.Choose.{choose}
 use Rattle.device.specs.Device.{listen, status, autoAddress, unaddress, idle, addressed, sendingData}
-use Rattle.device.specs.Device.{sendingStatus, asking, has, talks, sending}
+use Rattle.device.specs.Device.{sendingStatus, asking, endLast, has, talks, sending}
 use Rattle.device.specs.Change.{listening, talking, placed, counting}
 use Rattle.device.specs.Commands.{lad, tad, aau}
 use Rattle.device.specs.Reply.{eto, ete, sends, marked, stops, dataFrame, otherByte, otherFrame, otherLength}
@@ -31,7 +34,8 @@ use Rattle.device.specs.Sent.{Sent}
 use Rattle.device.proofs.Dispatch.{outside, elsewhere}
 use Rattle.device.proofs.Classes.{data-frame, idy-frame, aad-codes}
 use Rattle.device.proofs.Chosen.{chosen, selected}
-use Rattle.device.proofs.Marked.{Shows, shows, data-shows, idy-shows, reply, other-small, marked-asks}
+use Rattle.device.proofs.Marked.{Shows, shows, data-shows, idy-shows, reply, other-small, marked-kind}
+use Rattle.device.proofs.Marked.{marked-asks}
 
 -- e has d's talker state, or bytes 8, 14, 15, 16 zero
 abbrev pub Left : Device → Device → Type 0
@@ -43,6 +47,7 @@ pub record Told (d : Device) (f : ℕ) (s : Sent) : Type 0 where
   pub unhanded : Sending d → s .handed ≡ Nothing
   pub left : Sending d → Left d (s .device)
   pub shown : OfBytes d → s .device .service ≡ asking → ShowsService (s .frame) → ShowsC1 (s .frame)
+  pub asked : OfBytes d → (d .choice ≡ endLast → ⊥) → Of End (s .frame) → Of End f × (d .talker ≤ addressed)
 
 stays : (d e : Device) → e .talker ≡ d .talker → Left d e
 stays d e q n = absurd (n q)
@@ -60,15 +65,42 @@ polls-kept d b =
     chosen OfBytes (eqb (d .service) asking) _ d
     (λ e. record { status = b .status; accessory = b .accessory; id = b .id; load = b .load }) (λ e. b)
 
+polls-choice : (d : Device) → polls d .choice ≡ d .choice
+unfolding polls
+polls-choice d = chosen (λ (e : Device). e .choice ≡ d .choice) (eqb (d .service) asking) _ d (λ e. refl) (λ e. refl)
+
 -- a command or a ready frame
 no-service : (f : ℕ) → 0x400 ≤ f → f < 0x600 → ShowsService f → ⊥
 no-service f l h = ⊎-elim (λ i. omega (arith, i .past)) (λ i. omega (arith, i .first))
+
+-- is no END, and neither is what a device replies with that is not asked for END
+end-past : (f : ℕ) → Of End f → f < 0x400
+unfolding messages firstIn firstOf codesIn codesOf
+end-past f e = within-kind f 2 e (omega arith) .1
+
+no-end : (f : ℕ) → 0x400 ≤ f → Of End f → ⊥
+no-end f l e = omega (arith, end-past f e)
+
+data-plain : (d : Device) → OfBytes d → (d .choice ≡ endLast → ⊥) → Of End (dataFrame d) → ⊥
+unfolding dataFrame hasC1
+data-plain d b n =
+    let k = marked-kind d _ (reply dab _ refl (b .load (d .sent))) in
+    let plain : Of End (marked d (message dab (getD (d .load) (d .sent) 0) 0)) → ⊥ = λ e. omega (arith, k, e) in
+    chosen (λ x. Of End x → ⊥) (eqb (d .sent + 1) (d .loadlength)) _ _
+    (λ l. chosen (λ x. Of End x → ⊥) (eqb (d .choice) endLast) _ _ (λ c. absurd (n (eqb-true _ _ c))) (λ c. plain))
+    (λ l. plain)
+
+other-plain : (d : Device) → OfBytes d → Of End (otherFrame d) → ⊥
+unfolding hasC1
+other-plain d b e = omega (arith, marked-kind d _ (reply dab (otherByte d) refl (other-small d b)), e)
 
 data-asks : (d : Device) → OfBytes d → d .service ≡ asking → ShowsC1 (dataFrame d)
 unfolding dataFrame hasC1
 data-asks d b a =
     let o = b .load (d .sent) in
-    chosen ShowsC1 (eqb (d .sent + 1) (d .loadlength)) _ _ (λ e. marked-asks d _ (reply end _ refl o) a)
+    chosen ShowsC1 (eqb (d .sent + 1) (d .loadlength)) _ _
+    (λ e. chosen ShowsC1 (eqb (d .choice) endLast) _ _ (λ c. marked-asks d _ (reply end _ refl o) a)
+    (λ c. marked-asks d _ (reply dab _ refl o) a))
     (λ e. marked-asks d _ (reply dab _ refl o) a)
 
 other-asks : (d : Device) → OfBytes d → d .service ≡ asking → ShowsC1 (otherFrame d)
@@ -109,14 +141,15 @@ module _ (d : Device) where
 
 module _ (d : Device) (f : ℕ) (n : IsCommand f → ⊥) where
   -- the frame goes on, C1 set if service is 1
-  marks : (m : Message) → Shows m → (h : Handed) → (Sending d → h ≡ Nothing) →
-      Told d f (record { device = d; frame = marked d m; handed = h })
-  marks m i h k =
+  marks : (m : Message) → Shows m → (m .kind ≡ end → Of End f × (d .talker ≤ addressed)) → (h : Handed) →
+      (Sending d → h ≡ Nothing) → Told d f (record { device = d; frame = marked d m; handed = h })
+  marks m i p h k =
       record {
         command = λ c. absurd (n c);
         unhanded = k;
         left = λ s. stays d d refl;
         shown = λ b a s. marked-asks d m i a;
+        asked = λ b c e. p (sym (marked-kind d m i) ∙ e);
       }
 
   -- the device e, which is d or is made of d, answers or replies
@@ -128,61 +161,70 @@ module _ (d : Device) (f : ℕ) (n : IsCommand f → ⊥) where
           unhanded = λ s. refl;
           left = λ s. zeroes d e addressed;
           shown = λ b a s. absurd (no-service x l h s);
+          asked = λ b c e. absurd (no-end x l e);
         }
 
-    module _ (same : Sending d → e .talker ≡ d .talker) (bytes : OfBytes d → OfBytes e) where
-      counting-told : (x s r : ℕ) → (OfBytes e → e .service ≡ asking → ShowsC1 x) →
-          Told d f (sends (counting e x s r) x)
-      counting-told x s r h =
-          record {
-            command = λ c. absurd (n c);
-            unhanded = λ s. refl;
-            left = λ s. stays d _ (same s);
-            shown = λ b a s. h (bytes b) a;
-          }
+    module _ (same : Sending d → e .talker ≡ d .talker) (bytes : OfBytes d → OfBytes e) (q : e .choice ≡ d .choice)
+      where
+        counting-told : (x s r : ℕ) → (OfBytes e → e .service ≡ asking → ShowsC1 x) →
+            (OfBytes e → (e .choice ≡ endLast → ⊥) → Of End x → ⊥) → Told d f (sends (counting e x s r) x)
+        counting-told x s r h p =
+            record {
+              command = λ c. absurd (n c);
+              unhanded = λ s. refl;
+              left = λ s. stays d _ (same s);
+              shown = λ b a s. h (bytes b) a;
+              asked = λ b c i. absurd (p (bytes b) (λ u. c (sym q ∙ u)) i);
+            }
 
-      data-told : Told d f (sendsData e)
-      unfolding sendsData
-      data-told = counting-told (dataFrame e) _ _ (data-asks e)
+        data-told : Told d f (sendsData e)
+        unfolding sendsData
+        data-told = counting-told (dataFrame e) _ _ (data-asks e) (data-plain e)
 
-      other-told : Told d f (sendsOther e)
-      unfolding sendsOther
-      other-told = counting-told (otherFrame e) _ _ (other-asks e)
+        other-told : Told d f (sendsOther e)
+        unfolding sendsOther
+        other-told = counting-told (otherFrame e) _ _ (other-asks e) (λ b c. other-plain e b)
 
-      continues-told : Told d f (continues e)
-      unfolding continues
-      continues-told =
-          let ends = stops-told eto (omega arith) (omega arith) in
-          chosen (Told d f) (eqb (e .talker) sendingData) _ _
-          (λ t. chosen (Told d f) (ltb (e .sent) (e .loadlength)) _ _ (λ l. data-told) (λ l. ends))
-          (λ t. chosen (Told d f) (ltb (e .replied) (otherLength e)) _ _ (λ l. other-told) (λ l. ends))
+        continues-told : Told d f (continues e)
+        unfolding continues
+        continues-told =
+            let ends = stops-told eto (omega arith) (omega arith) in
+            chosen (Told d f) (eqb (e .talker) sendingData) _ _
+            (λ t. chosen (Told d f) (ltb (e .sent) (e .loadlength)) _ _ (λ l. data-told) (λ l. ends))
+            (λ t. chosen (Told d f) (ltb (e .replied) (otherLength e)) _ _ (λ l. other-told) (λ l. ends))
 
   returned-told : (m : Message) → Told d f (returned d m)
   unfolding returned
   returned-told m =
       chosen (Told d f) _ _ _
       (λ e. chosen (Told d f) (eqb (d .noted) 1) _ _ (λ e. stops-told d eto (omega arith) (omega arith))
-      (λ e. continues-told d (λ s. refl) (λ b. b)))
+      (λ e. continues-told d (λ s. refl) (λ b. b) refl))
       (λ e. stops-told d ete (omega arith) (omega arith))
 
-  heard-told : (m : Message) → Shows m → d .talker ≤ addressed → Told d f (heard d m)
+  heard-told : (m : Message) → Shows m → (m .kind ≡ end → Of End f) → d .talker ≤ addressed → Told d f (heard d m)
   unfolding heard
-  heard-told m i t =
-      chosen (Told d f) (eqb (d .listener) 1) _ _ (λ e. marks m i _ (λ s. absurd (omega arith)))
-      (λ e. marks m i Nothing (λ s. refl))
+  heard-told m i k t =
+      chosen (Told d f) (eqb (d .listener) 1) _ _ (λ e. marks m i (λ q. (k q, t)) _ (λ s. absurd (omega arith)))
+      (λ e. marks m i (λ q. (k q, t)) Nothing (λ s. refl))
 
-  dataOrEnd-told : (m : Message) → Shows m → Told d f (dataOrEnd d m)
+  dataOrEnd-told : (m : Message) → Shows m → (m .kind ≡ end → Of End f) → Told d f (dataOrEnd d m)
   unfolding dataOrEnd
-  dataOrEnd-told m i =
+  dataOrEnd-told m i k =
       chosen (Told d f) (sending d) _ _ (λ e. returned-told m)
-      (λ e. heard-told m i (ltb-false addressed (d .talker) e))
+      (λ e. heard-told m i k (ltb-false addressed (d .talker) e))
 
 -- ---- frames that go on unchanged where no rule says otherwise
 
 module _ (d : Device) (f : ℕ) (q : ShowsService f → ⊥) where
   passes : (e : Device) → Left d e → Told d f (sends e f)
   passes e l =
-      record { command = λ c. refl; unhanded = λ s. refl; left = λ s. l; shown = λ b a s. absurd (q s) }
+      record {
+        command = λ c. refl;
+        unhanded = λ s. refl;
+        left = λ s. l;
+        shown = λ b a s. absurd (q s);
+        asked = λ b c e. absurd (q (inl (record { past = end-past f e })));
+      }
 
   still : Told d f (sends d f)
   still = passes d (stays d d refl)
@@ -201,26 +243,28 @@ module _ (d : Device) (f : ℕ) (q : ShowsService f → ⊥) where
             unhanded = λ s. refl;
             left = λ s. stays d _ refl;
             shown = λ b a s. absurd (no-service (f + 1) (omega arith) (omega arith) s);
+            asked = λ b c e. absurd (no-end (f + 1) (omega arith) e);
           }
 
   module _ (n : IsCommand f → ⊥) where
     -- only an addressed device starts a reply, and that one is not sending
-    starts : (able : Bool) (e : Device) → (OfBytes d → OfBytes e) →
+    starts : (able : Bool) (e : Device) → (OfBytes d → OfBytes e) → e .choice ≡ d .choice →
         Told d f (choose (eqb (d .talker) addressed) (choose able (continues e) (sends d f)) (sends d f))
-    starts able e b =
+    starts able e b c =
         chosen (Told d f) (eqb (d .talker) addressed) _ _
         (λ t. chosen (Told d f) able _ _
-        (λ h. continues-told d f n e (λ s. omega (arith, eqb-true (d .talker) addressed t)) b) (λ h. still))
+        (λ h. continues-told d f n e (λ s. omega (arith, eqb-true (d .talker) addressed t)) b c) (λ h. still))
         (λ t. still)
 
     requested-told : (ability state : ℕ) → Told d f (requested d f ability state)
     unfolding requested
-    requested-told ability state = starts (has d ability) (talking d state) (kept d state)
+    requested-told ability state = starts (has d ability) (talking d state) (kept d state) refl
 
     sst-told : Told d f (sst d f)
     unfolding sst
     sst-told =
         starts (has d status) (talking (polls d) sendingStatus) (λ b. kept (polls d) sendingStatus (polls-kept d b))
+        (polls-choice d)
 
   no-command : (k : ℕ) → outside 0x400 0x500 k ≡ true → kindAt f ≡ k → IsCommand f → ⊥
   no-command k o e c = elsewhere 0x400 0x500 f k (c .first) (c .past) o e
@@ -242,9 +286,10 @@ module _ (d : Device) (f : ℕ) (q : ShowsService f → ⊥) where
       (λ e. requested-told (no-command _ refl e) _ _)
       (λ e. passes _ (nrd-left d))
       (λ e. aad-told e _)
-      (λ e. dataOrEnd-told d f (no-command _ refl e) _ (shows f (ap hasC1 e)))
-      (λ e. dataOrEnd-told d f (no-command _ refl e) _ (shows f (ap hasC1 e)))
-      (λ e. marks d f (no-command _ refl e) _ (shows f (ap hasC1 e)) Nothing (λ s. refl))
+      (λ e. dataOrEnd-told d f (no-command _ refl e) _ (shows f (ap hasC1 e)) (λ k. k))
+      (λ e. dataOrEnd-told d f (no-command _ refl e) _ (shows f (ap hasC1 e)) (λ k. k))
+      (λ e. marks d f (no-command _ refl e) _ (shows f (ap hasC1 e)) (λ k. absurd (omega (arith, e, k))) Nothing
+      (λ s. refl))
 
 shows? : (f : ℕ) → Dec (ShowsService f)
 shows? f = go (decLt f 0x400) (decLt f 0x600) (decLt f 0x800)
@@ -260,8 +305,9 @@ told d f = go (shows? f)
   where
     go : Dec (ShowsService f) → Told d f (takes d f)
     go (yes (inl i)) =
-        rw (data-frame d f (i .past)) (dataOrEnd-told d f (λ c. omega arith) _ (data-shows f (i .past)))
+        rw (data-frame d f (i .past)) (dataOrEnd-told d f (λ c. omega arith) _ (data-shows f (i .past)) (λ k. k))
     go (yes (inr i)) =
         rw (idy-frame d f (i .first) (i .past))
-        (marks d f (λ c. omega arith) _ (idy-shows f (i .first) (i .past)) Nothing (λ s. refl))
+        (marks d f (λ c. omega arith) _ (idy-shows f (i .first) (i .past))
+        (λ k. absurd (omega (arith, idy-kind f (i .first) (i .past), k))) Nothing (λ s. refl))
     go (no q) = rules-told d f q

@@ -42,6 +42,9 @@ last = 14
 abbrev pub replied : ℕ
 replied = 16
 
+abbrev pub choice : ℕ
+choice = 19
+
 -- a value, by its place, and what becomes of it
 pub record Edit : Type 0 where
   pub place : ℕ
@@ -75,6 +78,7 @@ remade d es load =
       sent = after es sent (d .sent);
       last = after es last (d .last);
       replied = after es replied (d .replied);
+      choice = after es choice (d .choice);
       id = d .id;
       load = load;
     }
@@ -107,9 +111,14 @@ noting d = changed d (noted becomes 1 ∷ [])
 abbrev pub counting : Device → (f s r : ℕ) → Device
 counting d f s r = changed d (last becomes f ∷ sent becomes s ∷ replied becomes r ∷ [])
 
--- the data bs, none of it sent
-abbrev pub loading : Device → List ℕ → Device
-loading d bs = remade d (loadlength becomes length bs ∷ sent becomes 0 ∷ []) (bytesFrom 0 mostData bs)
+-- choice e
+abbrev pub choosing : Device → ℕ → Device
+choosing d e = changed d (choice becomes e ∷ [])
+
+-- the data bs, none of it sent, and the choice e
+abbrev pub loading : Device → List ℕ → ℕ → Device
+loading d bs e =
+    remade d (loadlength becomes length bs ∷ sent becomes 0 ∷ choice becomes e ∷ []) (bytesFrom 0 mostData bs)
 
 -- status s
 abbrev pub statusing : Device → ℕ → Device

@@ -1,7 +1,7 @@
 -- The numbers that 01's table of the record names, and a device's abilities.
 use Prim.Native.Nat.{ℕ}
 use mathlib.Core.Bool.{Bool, not, _||_}
-use lib.Dec.{eqb, ltb}
+use lib.Dec.{eqb, ltb, leb}
 use lib.Bits.{bitAnd}
 use Rattle.device.specs.declared.Device.{Device}
 
@@ -58,6 +58,16 @@ asking = 1
 
 abbrev pub polled : ℕ
 polled = 2
+
+-- the choice of a load: its last byte goes out as DAB, or as END (02, h)
+abbrev pub plainLast : ℕ
+plainLast = 0
+
+abbrev pub endLast : ℕ
+endLast = 1
+
+abbrev pub isChoice : ℕ → Bool
+isChoice e = leb e endLast
 
 -- the fixed address of a device that has none
 abbrev pub noAddress : ℕ

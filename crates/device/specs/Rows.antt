@@ -1,9 +1,9 @@
--- 01's rows 1 to 12 and row 13 of 02, b: one device, abilities ff, fixed address 1f, with what a row names; frames, and
--- what is seen after each. All of them as one statement, proved in proofs/Table.antt.
+-- 01's rows 1 to 12, row 13 of 02, b, and row 14 of 02, h: one device, abilities ff, fixed address 1f, with what a row
+-- names; frames, and what is seen after each. All of them as one statement, proved in proofs/Table.antt.
 use Prim.Native.Nat.{ℕ}
 use mathlib.Core.Path.{_≡_}
 use mathlib.Core.List.{List, [], _∷_, map}
-use Rattle.device.specs.Device.{addressed, asking, polled}
+use Rattle.device.specs.Device.{addressed, asking, polled, plainLast, endLast}
 use Rattle.device.specs.PowerOn.{powerOn}
 use Rattle.device.specs.Change.{talking, placed, serving, loading, statusing}
 use Rattle.device.specs.Take.{takes}
@@ -20,9 +20,12 @@ unconfigured = powerOn (0xff ∷ 0x1f ∷ [])
 abbrev pub at : ℕ → Device
 at a = placed unconfigured a 1
 
--- talker 1 with data 41 42
+-- talker 1 with data 41 42, the last byte END or plain by choice
+abbrev pub loadedBy : ℕ → Device
+loadedBy e = loading (talking unconfigured addressed) (0x41 ∷ 0x42 ∷ []) e
+
 abbrev pub loaded : Device
-loaded = loading (talking unconfigured addressed) (0x41 ∷ 0x42 ∷ [])
+loaded = loadedBy endLast
 
 -- talker 1, service 1, status 20
 abbrev pub polling : Device
@@ -83,6 +86,8 @@ table =
     row 12 (serving unconfigured asking) (0x600 ∷ []) (see 0x700 31 0 0 1 ∷ []) ∷
     row 12 (serving unconfigured polled) (0x600 ∷ []) (see 0x600 31 0 0 2 ∷ []) ∷
     row 13 loaded (0x560 ∷ 0x041 ∷ 0x042 ∷ []) (see 0x041 31 0 2 0 ∷ see 0x242 31 0 2 0 ∷ see 0x541 31 0 1 0 ∷ []) ∷
+    row 14 (loadedBy plainLast) (0x560 ∷ 0x041 ∷ 0x042 ∷ [])
+    (see 0x041 31 0 2 0 ∷ see 0x042 31 0 2 0 ∷ see 0x540 31 0 1 0 ∷ []) ∷
     []
 
 -- Each row's frames show what the row says.

@@ -1,17 +1,17 @@
--- Sentences of 01, "What a device does with a frame", in its order, and of 02, b: each holds for every frame and every
--- device, sound or not, but for `ServiceShown`, which asks for bytes. Proved in proofs/Sentences.antt.
+-- Sentences of 01, "What a device does with a frame", in its order, and of 02, b and h: each holds for every frame and
+-- every device, sound or not, but for those that ask for bytes. Proved in proofs/Sentences.antt.
 use Prim.Native.Nat.{ℕ, _≤_, _<_}
 use mathlib.Core.Path.{_≡_}
 use mathlib.Core.Logic.{_⊎_}
 use lib.Dec.{eqb}
 use lib.ListN.{getD}
 use Rattle.frame.specs.declared.Kind.{Kind}
-use Rattle.frame.specs.declared.Kind.the-variants.{Lad, Tad, Aad}
+use Rattle.frame.specs.declared.Kind.the-variants.{End, Lad, Tad, Aad}
 use Rattle.frame.specs.Messages.{numberOf}
 use Rattle.frame.specs.Classes.{IsData, IsCommand, IsIdentify}
 use Rattle.frame.specs.Decoding.{decoded, frameOf}
 use Rattle.device.specs.Choose.{choose}
-use Rattle.device.specs.Device.{idle, addressed, asking, noAddress}
+use Rattle.device.specs.Device.{idle, addressed, asking, endLast, noAddress}
 use Rattle.device.specs.Change.{talking}
 use Rattle.device.specs.Reply.{eto, ete, sends, withC1, stops, continues}
 use Rattle.device.specs.Take.{takes}
@@ -86,6 +86,12 @@ pub record OfBytes (d : Device) : Type 0 where
   pub accessory : d .accessory < 256
   pub id : (i : ℕ) → getD (d .id) i 0 < 256
   pub load : (i : ℕ) → getD (d .load) i 0 < 256
+
+-- END only when asked for (02, h): a device whose choice is not END sends one only where it passes one on.
+abbrev pub EndOnlyAsked : Type 0
+EndOnlyAsked =
+    (d : Device) (f : ℕ) → OfBytes d → (d .choice ≡ endLast → ⊥) → Of End (takes d f .frame) →
+    Of End f × (d .talker ≤ addressed)
 
 -- Every DAB, END or IDY sent has C1 set if service, after the frame, is 1 (a number over 255 in place of a byte would
 -- make another frame).

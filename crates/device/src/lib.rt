@@ -19,6 +19,7 @@ pub struct Device {
     pub sent: u8,
     pub last: u16,
     pub replied: u8,
+    pub choice: u8,
     pub id: [u8; Device::MOST_ID],
     pub load: [u8; Device::MOST_DATA],
 }
@@ -67,6 +68,11 @@ impl Device {
 
     pub const POLLED: u8 = 2;
 
+    // The choice of a load: how the last byte of its data goes out.
+    pub const PLAIN_LAST: u8 = 0;
+
+    pub const END_LAST: u8 = 1;
+
     // The fixed address of a device that has none, and limits: bytes of ID and of data, and past any last frame sent.
     pub const NO_ADDRESS: u8 = 31;
 
@@ -96,6 +102,7 @@ impl Device {
             sent: 0,
             last: 0,
             replied: 0,
+            choice: Self::PLAIN_LAST,
             id: [
                 item[4],
                 item[5],

@@ -85,15 +85,22 @@ pub fn links_sound(links: &[u8], n: usize) -> bool
     true
 }
 
+// Bytes 2 to 7 of a header are zero, in an area and in a save.
+pub fn rest_zero(header: &[u8]) -> bool
+    requires { ⌜ headerSize ≤ length (now header) ⌝ }
+    ensures { λ r. ⌜ r ≡ zeros (bytesFrom 2 6 (now (header .entry))) ⌝ }
+{
+    (header[2] == 0)
+        & ((header[3] == 0)
+            & ((header[4] == 0) & ((header[5] == 0) & ((header[6] == 0) & (header[7] == 0)))))
+}
+
 // Bytes 1 to 7 are zero.
-pub fn header_sound(area: &[u8]) -> bool
+fn header_sound(area: &[u8]) -> bool
     requires { ⌜ headerSize ≤ length (now area) ⌝ }
     ensures { λ r. ⌜ r ≡ zeros (bytesFrom 1 7 (now (area .entry))) ⌝ }
 {
-    (area[1] == 0)
-        & ((area[2] == 0)
-            & ((area[3] == 0)
-                & ((area[4] == 0) & ((area[5] == 0) & ((area[6] == 0) & (area[7] == 0))))))
+    (area[1] == 0) & rest_zero(area)
 }
 
 pub fn contents_sound(area: &[u8]) -> bool

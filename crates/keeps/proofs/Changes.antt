@@ -8,7 +8,7 @@ use lib.ListN.{length}
 use lib.Dec.{ltb}
 use borrow.Author.Tests.{eq-eqb, lt-ltb}
 use Rattle.device.specs.Device.{has, talks, mostData}
-use Rattle.device.specs.Change.{listening, talking, placed, serving, noting, loading, statusing}
+use Rattle.device.specs.Change.{listening, talking, placed, serving, noting, choosing, loading, statusing}
 use Rattle.device.specs.declared.Device.{Device}
 use Rattle.device.proofs.Bytes.{bytes-wide}
 use Rattle.record.specs.Fits.{Bytes}
@@ -125,9 +125,9 @@ module _ (d : Device) (k : Kept d) where
       }
 
   -- data for a device that is not sending any: what is past its end is zero
-  pub loading-kept : (bs : List ℕ) → Bytes bs → length bs ≤ 32 → has d 2 ≡ true → (d .talker ≡ 2 → ⊥) →
-      Kept (loading d bs)
-  loading-kept bs b m h n =
+  pub loading-kept : (bs : List ℕ) (e : ℕ) → Bytes bs → e ≤ 1 → length bs ≤ 32 → has d 2 ≡ true →
+      (d .talker ≡ 2 → ⊥) → Kept (loading d bs e)
+  loading-kept bs e b c m h n =
       let t = k .talks in
       record {
         sized =
@@ -150,6 +150,7 @@ module _ (d : Device) (k : Kept d) where
               loadzero = padded-zero bs mostData;
               able = only-in (ltb 0 (length bs)) (has d 2) (λ e. h);
               sent = omega arith;
+              choice = c;
             };
         talks =
             record {
@@ -168,6 +169,20 @@ module _ (d : Device) (k : Kept d) where
               none = t .none;
               quiet = t .quiet;
             };
+      }
+
+  pub choosing-kept : (e : ℕ) → e ≤ 1 → Kept (choosing d e)
+  choosing-kept e h =
+      let l = k .loads in
+      record {
+        sized = k .sized;
+        made = k .made;
+        placed = k .placed;
+        listens = k .listens;
+        serves = k .serves;
+        loads =
+            record { loadlength = l .loadlength; loadzero = l .loadzero; able = l .able; sent = l .sent; choice = h };
+        talks = k .talks;
       }
 
   pub statusing-kept : (s : ℕ) → s < 256 → Kept (statusing d s)

@@ -51,6 +51,7 @@ Loads d =
       loadzero : zeros (drop (d .loadlength) (d .load)) ≡ true;
       able : dataAble d ≡ true;
       sent : d .sent ≤ d .loadlength;
+      choice : d .choice ≤ 1;
     }
 
 abbrev pub Talks : Device → Type 0
@@ -161,7 +162,8 @@ clauses d =
 abbrev ranges : Device → List Bool
 ranges d =
     leb (d .fixed) 31 ∷ leb (d .address) 31 ∷ leb (d .configured) 1 ∷ leb (d .listener) 1 ∷ leb (d .talker) 5 ∷
-    leb (d .service) 2 ∷ leb (d .noted) 1 ∷ leb (d .idlength) 8 ∷ leb (d .loadlength) 32 ∷ []
+    leb (d .service) 2 ∷ leb (d .noted) 1 ∷ leb (d .idlength) 8 ∷ leb (d .loadlength) 32 ∷
+    leb (d .choice) 1 ∷ []
 
 abbrev states : Device → List Bool
 states d =
@@ -253,6 +255,7 @@ module _ (d : Device) (g : Good d) where
               loadzero = past .1 .0;
               able = sounds .1 .1 .1 .1 .1 .1 .1 .1 .1 .1 .0;
               sent = leb-true _ _ (sent .0);
+              choice = leb-true _ _ (range .1 .1 .1 .1 .1 .1 .1 .1 .1 .0);
             };
         talks = talked;
       }
@@ -274,7 +277,10 @@ module _ (d : Device) (k : Kept d) where
                   le-leb _ _ (k .serves .service),
                   (
                     le-leb _ _ (k .talks .noted),
-                    (le-leb _ _ (k .made .idlength), (le-leb _ _ (k .loads .loadlength), tt)),
+                    (
+                      le-leb _ _ (k .made .idlength),
+                      (le-leb _ _ (k .loads .loadlength), (le-leb _ _ (k .loads .choice), tt)),
+                    ),
                   ),
                 ),
               ),
@@ -373,6 +379,7 @@ module _ (d : Device) (k : Kept d) where
         sent = omega (arith, k .loads .sent, k .loads .loadlength);
         last = omega (arith, k .talks .last);
         replied = replied-small;
+        choice = omega (arith, k .loads .choice);
         id = k .sized .id;
         load = k .sized .load;
         idsize = k .sized .idsize;

@@ -6,13 +6,13 @@ use mathlib.Core.Bool.{Bool, true}
 use native.Mathlib.Omega.{arith}
 use lib.Dec.{eqb, ltb}
 use lib.ListN.{length}
-use borrow.Author.Tests.{eqb-true, eqb-false, ltb-true, ltb-false}
+use borrow.Author.Tests.{eqb-true, eqb-false, ltb-true, ltb-false, leb-true}
 use Rattle.frame.specs.declared.Kind.the-variants.{Aad}
 use Rattle.frame.specs.Messages.{kindAt}
 use Rattle.frame.specs.Decoding.{hasC1, decoded}
 use Rattle.frame.specs.declared.Message.{Message}
 use Rattle.device.specs.Choose.{choose}
-use Rattle.device.specs.Device.{has, talks, sendData, status, sending}
+use Rattle.device.specs.Device.{has, talks, sendData, status, isChoice, sending}
 use Rattle.device.specs.Change.{listening, talking}
 use Rattle.device.specs.Commands.{lad, tad, ifc, aau}
 use Rattle.device.specs.Reply.{sends, marked, eto, ete}
@@ -28,10 +28,10 @@ use Rattle.device.proofs.Marked.{Shows, shows, marked-below}
 use Rattle.record_local.specs.Local.{Called}
 use Rattle.record.specs.Fits.{Good}
 use Rattle.keeps.specs.Keeps.{TakeKeeps, TakeBelow, LoadKeeps, StatusKeeps, WishKeeps, LastIsData}
-use Rattle.keeps.specs.Keeps.{GoodOfBytes}
+use Rattle.keeps.specs.Keeps.{ChoiceKeeps, GoodOfBytes}
 use Rattle.keeps.proofs.Groups.{Kept, kept-of, good-of, lt-out}
 use Rattle.keeps.proofs.Changes.{listening-kept, resting-kept, placed-kept, serving-kept, noting-kept}
-use Rattle.keeps.proofs.Changes.{loading-kept, statusing-kept}
+use Rattle.keeps.proofs.Changes.{loading-kept, choosing-kept, statusing-kept}
 use Rattle.keeps.proofs.Replies.{Out, others, Sends, stops-out, continues-out}
 
 -- the frame goes on, and the device after it is sound
@@ -245,12 +245,18 @@ take-good d f g h = (take-keeps d f g, take-below d f g h)
 
 pub load-good : LoadKeeps
 unfolding loads
-load-good d bs b g =
-    chosen (λ (c : Called). Good (c .device)) (has d sendData) _ _
+load-good d bs x b g =
+    chosen (λ (c : Called). Good (c .device)) (isChoice x) _ _
+    (λ t. chosen (λ (c : Called). Good (c .device)) (has d sendData) _ _
     (λ h. chosen (λ (c : Called). Good (c .device)) (ltb 32 (length bs)) _ _ (λ e. g)
     (λ e. chosen (λ (c : Called). Good (c .device)) (eqb (d .talker) 2) _ _ (λ i. g)
-    (λ i. good-of _ (loading-kept d (kept-of d g) bs b (ltb-false _ _ e) h (eqb-false _ _ i)))))
-    (λ h. g)
+    (λ i. good-of _
+    (loading-kept d (kept-of d g) bs x b (leb-true _ _ t) (ltb-false _ _ e) h (eqb-false _ _ i)))))
+    (λ h. g))
+    (λ t. g)
+
+pub choice-good : ChoiceKeeps
+choice-good d e h g = good-of _ (choosing-kept d (kept-of d g) e h)
 
 pub status-good : StatusKeeps
 unfolding setsStatus

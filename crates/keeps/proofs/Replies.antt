@@ -9,7 +9,7 @@ use borrow.Author.Tests.{eqb-true, eqb-false, ltb-true, eq-eqb, ne-eqb}
 use Rattle.frame.specs.Messages.{messages, firstIn, firstOf, codesIn, codesOf}
 use Rattle.frame.specs.Decoding.{dab, end, hasC1}
 use Rattle.device.specs.Choose.{choose}
-use Rattle.device.specs.Device.{has, talks}
+use Rattle.device.specs.Device.{endLast, has, talks}
 use Rattle.device.specs.Reply.{eto, stops, dataFrame, otherByte, otherFrame, otherLength, sendsData, sendsOther}
 use Rattle.device.specs.Reply.{continues}
 use Rattle.device.specs.Sentences.{OfBytes}
@@ -92,7 +92,9 @@ module _ (d : Device) (o : Others d) (s : Sends d) where
   data-below =
       let b = o .sized .load (d .sent) in
       chosen (λ x. x < 1024) (eqb (d .sent + 1) (d .loadlength)) _ _
-      (λ e. omega (arith, marked-code d _ (reply end _ refl b) .1))
+      (λ e. chosen (λ x. x < 1024) (eqb (d .choice) endLast) _ _
+      (λ c. omega (arith, marked-code d _ (reply end _ refl b) .1))
+      (λ c. omega (arith, marked-code d _ (reply dab _ refl b) .1)))
       (λ e. omega (arith, marked-code d _ (reply dab _ refl b) .1))
 
   other-below : otherFrame d < 1024
@@ -117,7 +119,14 @@ module _ (d : Device) (o : Others d) (s : Sends d) where
         placed = o .placed;
         listens = o .listens;
         serves = o .serves;
-        loads = record { loadlength = l .loadlength; loadzero = l .loadzero; able = l .able; sent = omega arith };
+        loads =
+            record {
+              loadlength = l .loadlength;
+              loadzero = l .loadzero;
+              able = l .able;
+              sent = omega arith;
+              choice = l .choice;
+            };
         talks =
             record {
               talker = s .high;

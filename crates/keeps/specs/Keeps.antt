@@ -1,7 +1,9 @@
 -- A sound device stays sound, whatever it is given: statements, proved in proofs/Keeps.antt.
-use Prim.Native.Nat.{ℕ, _<_}
+use Prim.Native.Nat.{ℕ, _≤_, _<_}
 use mathlib.Core.List.{List}
 use Rattle.frame.specs.Messages.{frames}
+use Rattle.device.specs.Device.{endLast}
+use Rattle.device.specs.Change.{choosing}
 use Rattle.device.specs.Take.{takes}
 use Rattle.frame.specs.Classes.{IsData}
 use Rattle.device.specs.Sentences.{OfBytes}
@@ -19,7 +21,11 @@ TakeBelow = (d : Device) (f : ℕ) → Good d → f < frames → takes d f .fram
 
 -- Each local call, refused or not, keeps a sound device sound
 abbrev pub LoadKeeps : Type 0
-LoadKeeps = (d : Device) (bs : List ℕ) → Bytes bs → Good d → Good (loads d bs .device)
+LoadKeeps = (d : Device) (bs : List ℕ) (e : ℕ) → Bytes bs → Good d → Good (loads d bs e .device)
+
+-- a choice put into its record too
+abbrev pub ChoiceKeeps : Type 0
+ChoiceKeeps = (d : Device) (e : ℕ) → e ≤ endLast → Good d → Good (choosing d e)
 
 abbrev pub StatusKeeps : Type 0
 StatusKeeps = (d : Device) (s : ℕ) → s < 256 → Good d → Good (setsStatus d s .device)

@@ -4,7 +4,7 @@ use mathlib.Core.Path.{_≡_, refl, sym, _∙_}
 use mathlib.Core.List.{List}
 use mathlib.Core.Bool.{Bool, true, false, _&&_}
 use native.Mathlib.Omega.{arith}
-use lib.Dec.{eqb}
+use lib.Dec.{eqb, leb}
 use lib.ListN.{length}
 use borrow.Author.Tests.{eqb-true, le-leb}
 use Rattle.record.proofs.Both.{left, right, never}
@@ -13,7 +13,7 @@ use Rattle.area.specs.Loop.{Loop, countIn, shapedWith, judgeWith}
 use Rattle.area.proofs.Areas.{judge-zero, is-shaped}
 use Rattle.calls.specs.Outcome.{Outcome, after, callWith}
 use Rattle.calls.specs.SetUp.{devicesFor, itemsFit, setUpWith}
-use Rattle.saved.specs.Saved.{saved, savedSize, savedCount, headed, formed}
+use Rattle.saved.specs.Saved.{saved, savedSize, savedCount, edition, headed, formed}
 use Rattle.saved.specs.Calls.{badSave, saveWith, openWith}
 use Rattle.saved.proofs.Formed.{count-saved}
 use Rattle.saved.proofs.Tests.{form-many, open-bad}
@@ -50,13 +50,15 @@ module _ (smaller larger : ℕ) (le : smaller ≤ larger) where
   same-form : (s : List ℕ) → FewSaved smaller s → formed smaller s ≡ formed larger s
   unfolding formed
   same-form s few =
-      same-count (savedCount s) (eqb (length s) (savedSize (savedCount s)) && headed s) (at-most few)
+      same-count (savedCount s) (eqb (length s) (savedSize (savedCount s)) && (headed s && leb (edition s) 1))
+      (at-most few)
     where
-      at-most : FewSaved smaller s → (eqb (length s) (savedSize (savedCount s)) && headed s) ≡ true →
+      at-most : FewSaved smaller s →
+          (eqb (length s) (savedSize (savedCount s)) && (headed s && leb (edition s) 1)) ≡ true →
           savedCount s ≤ smaller
       at-most (FewSaved.by-count h) e = omega (arith, h)
       at-most (FewSaved.by-length h) e =
-          let l = left (eqb (length s) (savedSize (savedCount s))) (headed s) e in
+          let l = left (eqb (length s) (savedSize (savedCount s))) (headed s && leb (edition s) 1) e in
           omega (arith, h, eqb-true (length s) (savedSize (savedCount s)) l)
 
   same-judged : (a : List ℕ) → FewIn smaller a → judgeWith smaller a ≡ judgeWith larger a

@@ -1,20 +1,40 @@
 // The local calls on an area: load data, set status, wish for service. The device is found by its number, and the call
 // is made in its record (record_local).
+use area::SHAPE;
+use area::UNSOUND;
 use area::lookup::record_start;
+use device::Device;
 use find::Found;
 use find::find;
+use judge::shape_right;
 use record::SIZE;
+ghost use mathlib.Core.Path.{_≡_};
+ghost use mathlib.Core.Bool.{cond};
+ghost use Rattle.area.specs.Loop.{shape, unsound, shaped};
 ghost use Rattle.calls.specs.Outcome.{Is};
 ghost use Rattle.calls.specs.Calls.{loadOf, statusOf, wishOf};
 
-pub fn load(area: &mut [u8], device: u64, bytes: &[u8]) -> u8
-    ensures { λ r. ⌜ Is (loadOf (now (area .entry)) device (now (bytes .entry))) r (now (area .exit)) ⌝ }
+// The refusal of a choice that is neither plain nor END: it counts as unsound, so that the area's shape comes before.
+fn no_choice(area: &[u8]) -> u8
+    ensures { λ r. ⌜ r ≡ cond (shaped (now (area .entry))) unsound shape ⌝ }
 {
+    if shape_right(area) {
+        return UNSOUND;
+    }
+    SHAPE
+}
+
+pub fn load(area: &mut [u8], device: u64, bytes: &[u8], end: u64) -> u8
+    ensures { λ r. ⌜ Is (loadOf (now (area .entry)) device (now (bytes .entry)) end) r (now (area .exit)) ⌝ }
+{
+    if (Device::END_LAST as u64) < end {
+        return no_choice(area);
+    }
     match find(area, device) {
         Found::Refused(wrong) => wrong,
         Found::At(i) => {
             let at = record_start(area, i);
-            record_local::load(&mut area[at..at + SIZE], bytes)
+            record_local::load(&mut area[at..at + SIZE], bytes, end as u8)
         }
     }
 }

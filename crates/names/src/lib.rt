@@ -23,7 +23,7 @@ pub fn refusal(number: u64) {
     match number {
         0 => text(b"accepted"),
         1 => text(b"shape: lengths do not fit, or no set-up yet"),
-        2 => text(b"unsound: the area or an item breaks a rule"),
+        2 => text(b"unsound: the area, an item or a choice breaks a rule"),
         3 => text(b"no device: its number is too high"),
         4 => text(b"bad frame: no such frame, kind, offset or C1"),
         5 => text(b"empty: no frame to take"),

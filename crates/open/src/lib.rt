@@ -1,4 +1,8 @@
-// Open: a save becomes the lent area, if it has the form and its contents are sound.
+// Open: a save becomes the lent area, if it has the form and its contents are sound. One written before loads took a
+// choice is opened as its upgrade (02, h).
+mod old;
+
+use crate::old::open_old;
 use area::SHAPE;
 use area::UNSOUND;
 use area::area_size;
@@ -6,6 +10,7 @@ use bodies::bodies_sound;
 use bodies::read_bodies;
 use form::form_right;
 use saved::BAD_SAVE;
+use saved::EDITION_AT;
 use saved::HEAD_SIZE;
 ghost use Rattle.calls.specs.Outcome.{Is};
 ghost use Rattle.saved.specs.Calls.{openOf};
@@ -22,6 +27,9 @@ pub fn open(area: &mut [u8], save: &[u8]) -> u8
     }
     if !bodies_sound(save, n) {
         return UNSOUND;
+    }
+    if save[EDITION_AT] == 0 {
+        return open_old(area, save, n);
     }
     read_bodies(save, area, n);
     0

@@ -6,7 +6,9 @@ use calls::OwedAnswer;
 use calls::TakeAnswer;
 use coding::DecodeAnswer;
 use coding::EncodeAnswer;
+use device::Device;
 ghost use mathlib.Core.Path.{_≡_};
+ghost use Rattle.device.specs.Device.{endLast};
 ghost use Rattle.calls.specs.Outcome.{Is};
 ghost use Rattle.calls.specs.Calls.{putOf, takeOf, hopOf, loadOf, statusOf, wishOf};
 ghost use Rattle.calls.specs.Drain.{drainOf};
@@ -51,10 +53,18 @@ pub extern "C" fn pil_drain(area: &mut [u8], budget: u64) -> DrainAnswer
 }
 
 #[no_mangle]
-pub extern "C" fn pil_load(area: &mut [u8], device: u64, bytes: &[u8]) -> u8
-    ensures { λ r. ⌜ Is (loadOf (now (area .entry)) device (now (bytes .entry))) r (now (area .exit)) ⌝ }
+pub extern "C" fn pil_load(area: &mut [u8], device: u64, bytes: &[u8], end: u64) -> u8
+    ensures { λ r. ⌜ Is (loadOf (now (area .entry)) device (now (bytes .entry)) end) r (now (area .exit)) ⌝ }
 {
-    local_calls::load(area, device, bytes)
+    local_calls::load(area, device, bytes, end)
+}
+
+// The entry of the printer scripts, which rely on END: a load with 1.
+#[no_mangle]
+pub extern "C" fn pil_load_end(area: &mut [u8], device: u64, bytes: &[u8]) -> u8
+    ensures { λ r. ⌜ Is (loadOf (now (area .entry)) device (now (bytes .entry)) endLast) r (now (area .exit)) ⌝ }
+{
+    pil_load(area, device, bytes, Device::END_LAST as u64)
 }
 
 #[no_mangle]

@@ -5,7 +5,6 @@ use mathlib.Core.List.{List, [], _∷_, _++_}
 use mathlib.Core.Bool.{true, _&&_}
 use Prim.Native.Nat.{ℕ, _+_, _*_, _/_, _%_, _≤_, _<_}
 use native.Mathlib.Omega.{arith}
-use lib.Dec.{eqb}
 use lib.ListN.{length, getD, take, drop, length-drop, length-replicate, take-append-drop}
 use lib.Seq.{drop-drop, take-all}
 use borrow.Author.Tests.{eqb-true}
@@ -13,7 +12,7 @@ use Rattle.device.specs.Device.{mostID, mostData}
 use Rattle.device.specs.PowerOn.{bytesFrom, powerOn}
 use Rattle.device.specs.declared.Device.{Device}
 use Rattle.device.proofs.Bytes.{bytes-wide, bytes-all, take-bytes}
-use Rattle.record.specs.Record.{headOf, deviceOf, recordOf, zeros}
+use Rattle.record.specs.Record.{headOf, deviceOf, recordOf, spare, zeros}
 use Rattle.record.specs.Sound.{soundDevice, soundRecord, allowed}
 use Rattle.record.specs.Fits.{Bytes, Fits, Good}
 use Rattle.record.specs.Laws.{RecordWide, ReadWritten, WriteRead, WriteSound, ReadSound, GoodBytes, PowerOnSound}
@@ -53,6 +52,7 @@ record-again d f =
       sent = d .sent;
       last = whole (d .last) i;
       replied = d .replied;
+      choice = d .choice;
       id = sym (bytes-all mostID (d .id) (f .idsize)) i;
       load = sym (bytes-all mostData (d .load) (f .loadsize)) i;
     }
@@ -72,20 +72,13 @@ zeros-seven a b c d e f g h = (
 )
 
 module _ (b : List ℕ) (h : soundRecord b ≡ true) where
-  seventh : getD b 7 0 ≡ 0
+  spare-zero : zeros (spare b) ≡ true
   unfolding soundRecord
-  seventh = eqb-true (getD b 7 0) 0
-      (left (eqb (getD b 7 0) 0) (zeros (take 7 (drop 17 b)) && soundDevice (deviceOf b)) h)
-
-  inner : (zeros (take 7 (drop 17 b)) && soundDevice (deviceOf b)) ≡ true
-  unfolding soundRecord
-  inner = right (eqb (getD b 7 0) 0) (zeros (take 7 (drop 17 b)) && soundDevice (deviceOf b)) h
-
-  spare : zeros (take 7 (drop 17 b)) ≡ true
-  spare = left (zeros (take 7 (drop 17 b))) (soundDevice (deviceOf b)) inner
+  spare-zero = left (zeros (spare b)) (soundDevice (deviceOf b)) h
 
   device-sound : soundDevice (deviceOf b) ≡ true
-  device-sound = right (zeros (take 7 (drop 17 b))) (soundDevice (deviceOf b)) inner
+  unfolding soundRecord
+  device-sound = right (zeros (spare b)) (soundDevice (deviceOf b)) h
 
 three : (b : List ℕ) → length b ≡ 64 → take 24 b ++ (take 8 (drop 24 b) ++ take 32 (drop 32 b)) ≡ b
 three b len =
@@ -99,13 +92,11 @@ three b len =
 head-back : (b : List ℕ) → length b ≡ 64 → Bytes b → soundRecord b ≡ true → headOf (deviceOf b) ≡ take 24 (drop 0 b)
 unfolding deviceOf bytesFrom
 head-back b len small h =
-    let s : zeros (bytesFrom 17 7 b) ≡ true = rw (take-bytes 7 17 b (omega arith)) at (spare b h) in
-    let z = zeros-seven (getD b 17 0) (getD b 18 0) (getD b 19 0) (getD b 20 0) (getD b 21 0) (getD b 22 0)
-    (getD b 23 0) s in
+    let z = zeros-seven (getD b 7 0) (getD b 17 0) (getD b 18 0) (getD b 20 0) (getD b 21 0) (getD b 22 0)
+    (getD b 23 0) (spare-zero b h) in
     let lo = low-of (getD b 14 0) (getD b 15 0) (small 14) in
     let hi = high-of (getD b 14 0) (getD b 15 0) (small 14) in
-    let e : headOf (deviceOf b) ≡ bytesFrom 0 24 b = simp
-    (lo, hi, seventh b h, z .0, z .1, z .2, z .3, z .4, z .5, z .6) in
+    let e : headOf (deviceOf b) ≡ bytesFrom 0 24 b = simp (lo, hi, z .0, z .1, z .2, z .3, z .4, z .5, z .6) in
     e ∙ sym (take-bytes 24 0 b (omega arith))
 
 -- a stretch of the record, read and written
@@ -118,8 +109,7 @@ record-back b len small h =
     rw (stretch-back b 24 8 (omega arith), stretch-back b 32 32 (omega arith))
     (ap (λ (x : List ℕ). x ++ (take 8 (drop 24 b) ++ take 32 (drop 32 b))) (head-back b len small h) ∙ three b len)
 
-spared : (d : Device) → soundDevice d ≡ true →
-    (eqb (getD (recordOf d) 7 0) 0 && (zeros (take 7 (drop 17 (recordOf d))) && soundDevice d)) ≡ true
+spared : (d : Device) → soundDevice d ≡ true → (zeros (spare (recordOf d)) && soundDevice d) ≡ true
 unfolding recordOf zeros
 spared d s = s
 
@@ -146,6 +136,7 @@ read-fits b h =
       sent = h 13;
       last = omega (arith, h 14, h 15);
       replied = h 16;
+      choice = h 19;
       id = bytes-small b 24 mostID h;
       load = bytes-small b 32 mostData h;
       idsize = bytes-wide 24 mostID b;
@@ -190,6 +181,7 @@ power-good item h a =
             sent = omega arith;
             last = omega arith;
             replied = omega arith;
+            choice = omega arith;
             id = bytes-small item 4 mostID h;
             load = zeros-small mostData;
             idsize = bytes-wide 4 mostID item;

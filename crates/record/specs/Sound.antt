@@ -1,23 +1,23 @@
--- When a record is sound: the clauses of 01's "Sound means" on a record, in its order, and its zero bytes; a set-up
--- item is judged by the same clauses. That frames are below 2,048 is said of links, in area.
+-- When a record is sound: the clauses of 01's "Sound means" on a record, in its order, with the choice of 02, h, and
+-- its zero bytes; a set-up item is judged by the same clauses. That frames are below 2,048 is said of links, in area.
 use Prim.Native.Nat.{ℕ}
 use mathlib.Core.List.{List}
 use mathlib.Core.Bool.{Bool, not, _&&_, _||_}
 use lib.Dec.{eqb, ltb, leb}
-use lib.ListN.{getD, take, drop}
+use lib.ListN.{drop}
 use Rattle.device.specs.Device.{listen, sendData, status, deviceID, accessoryID, autoAddress, unaddress, serviceRequest}
 use Rattle.device.specs.Device.{addressed, sendingData, sendingStatus, sendingDeviceID, sendingAccessoryID, noService}
-use Rattle.device.specs.Device.{polled, noAddress, mostID, mostData, has, talks, sending}
+use Rattle.device.specs.Device.{polled, isChoice, noAddress, mostID, mostData, has, talks, sending}
 use Rattle.device.specs.PowerOn.{powerOn}
 use Rattle.device.specs.declared.Device.{Device}
-use Rattle.record.specs.Record.{deviceOf, zeros}
+use Rattle.record.specs.Record.{deviceOf, spare, zeros}
 
 -- the first only with the second
 abbrev pub only : Bool → Bool → Bool
 only a b = not a || b
 
 -- those ranges: addresses 0-31, configured and listener 0/1, talker 0-5, service 0-2, NRD seen 0/1, lengths 0-8 and
--- 0-32
+-- 0-32; and the choice 0/1
 abbrev pub inRange : Device → Bool
 inRange d =
     leb (d .fixed) noAddress &&
@@ -28,7 +28,8 @@ inRange d =
     (leb (d .service) polled &&
     (leb (d .noted) 1 &&
     (leb (d .idlength) mostID &&
-    leb (d .loadlength) mostData)))))))
+    (leb (d .loadlength) mostData &&
+    isChoice (d .choice)))))))))
 
 -- ID and data are zero past their length
 abbrev pub zeroPast : Device → Bool
@@ -111,9 +112,9 @@ soundDevice d =
     (quietOutside d &&
     lastBelow d)))))))))))))
 
--- a record is sound: bytes 7 and 17-23 are zero, and its device is sound
+-- a record is sound: its spare bytes are zero, and its device is sound
 unfoldable pub soundRecord : List ℕ → Bool
-soundRecord b = eqb (getD b 7 0) 0 && (zeros (take 7 (drop 17 b)) && soundDevice (deviceOf b))
+soundRecord b = zeros (spare b) && soundDevice (deviceOf b)
 
 -- a set-up item is allowed: its device at power-on is sound
 unfoldable pub allowed : List ℕ → Bool

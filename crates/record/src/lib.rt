@@ -41,6 +41,8 @@ pub const LAST: usize = 14;
 
 pub const REPLIED: usize = 16;
 
+pub const CHOICE: usize = 19;
+
 pub const ID: usize = 24;
 
 pub const LOAD: usize = 32;

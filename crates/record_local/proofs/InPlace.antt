@@ -6,7 +6,7 @@ use mathlib.Core.List.{List, _++_}
 use lib.ListN.{length, take, drop, set}
 use borrow.Author.Tests.{ne-eqb}
 use Rattle.device.specs.PowerOn.{bytesFrom}
-use Rattle.device.specs.Change.{loadlength, sent, status, service, loading, statusing, serving}
+use Rattle.device.specs.Change.{loadlength, sent, choice, status, service, loading, statusing, serving}
 use Rattle.device.specs.declared.Device.{Device}
 use Rattle.record.specs.Record.{deviceOf, recordOf}
 use Rattle.record.specs.Written.{IsRecord}
@@ -14,11 +14,11 @@ use Rattle.record_local.specs.Local.{Called, accepted, refused}
 use Rattle.record_local.specs.InPlace.{InPlace}
 
 module _ (d : Device) where
-  data-put : (bs : List ℕ) →
-      let b = set (set (recordOf d) loadlength (length bs)) sent 0 in
-      take 32 b ++ (bytesFrom 0 32 bs ++ drop 32 (drop 32 b)) ≡ recordOf (loading d bs)
+  data-put : (bs : List ℕ) (e : ℕ) →
+      let b = set (set (set (recordOf d) loadlength (length bs)) sent 0) choice e in
+      take 32 b ++ (bytesFrom 0 32 bs ++ drop 32 (drop 32 b)) ≡ recordOf (loading d bs e)
   unfolding recordOf bytesFrom
-  data-put bs = refl
+  data-put bs e = refl
 
   status-put : (s : ℕ) → set (recordOf d) status s ≡ recordOf (statusing d s)
   unfolding recordOf
@@ -30,10 +30,10 @@ module _ (d : Device) where
 
 -- a record b of bytes
 module _ (b : List ℕ) (i : IsRecord b) where
-  pub data-written : (bs : List ℕ) →
-      let c = set (set b loadlength (length bs)) sent 0 in
-      take 32 c ++ (bytesFrom 0 32 bs ++ drop 32 (drop 32 c)) ≡ recordOf (loading (deviceOf b) bs)
-  data-written bs = rw (i .whole) at (data-put (deviceOf b) bs)
+  pub data-written : (bs : List ℕ) (e : ℕ) →
+      let c = set (set (set b loadlength (length bs)) sent 0) choice e in
+      take 32 c ++ (bytesFrom 0 32 bs ++ drop 32 (drop 32 c)) ≡ recordOf (loading (deviceOf b) bs e)
+  data-written bs e = rw (i .whole) at (data-put (deviceOf b) bs e)
 
   pub status-written : (s : ℕ) → set b status s ≡ recordOf (statusing (deviceOf b) s)
   status-written s = rw (i .whole) at (status-put (deviceOf b) s)

@@ -1,10 +1,11 @@
--- The local calls of a device (01, The calls), refused with 7, 8, 9 in that order.
+-- The local calls of a device (01, The calls; 02, h), refused with 2, 7, 8, 9 in that order.
 use Prim.Native.Nat.{ℕ}
 use mathlib.Core.List.{List}
 use lib.Dec.{eqb, ltb}
 use lib.ListN.{length}
 use Rattle.device.specs.Choose.{choose}
-use Rattle.device.specs.Device.{sendData, status, serviceRequest, sendingData, noService, asking, mostData, has}
+use Rattle.device.specs.Device.{sendData, status, serviceRequest, sendingData, noService, asking, isChoice, mostData}
+use Rattle.device.specs.Device.{has}
 use Rattle.device.specs.Change.{serving, loading, statusing}
 use Rattle.device.specs.declared.Device.{Device}
 
@@ -13,7 +14,10 @@ pub record Called : Type 0 where
   pub refusal : ℕ
   pub device : Device
 
--- refusals: no ability, too long, busy
+-- refusals: a choice other than 0 or 1, by the number of what is not sound; no ability, too long, busy
+abbrev pub badChoice : ℕ
+badChoice = 2
+
 abbrev pub noAbility : ℕ
 noAbility = 7
 
@@ -29,14 +33,16 @@ accepted d = record { refusal = 0; device = d }
 abbrev pub refused : ℕ → Device → Called
 refused k d = record { refusal = k; device = d }
 
--- load: 0 to 32 bytes of data, of which none is sent
-unfoldable pub loads : Device → List ℕ → Called
-loads d bs =
-    choose (has d sendData)
+-- load: 0 to 32 bytes of data, of which none is sent, and the choice how the last of them goes out
+unfoldable pub loads : Device → List ℕ → ℕ → Called
+loads d bs e =
+    choose (isChoice e)
+    (choose (has d sendData)
     (choose (ltb mostData (length bs)) (refused tooLong d)
     (choose (eqb (d .talker) sendingData) (refused busy d)
-    (accepted (loading d bs))))
-    (refused noAbility d)
+    (accepted (loading d bs e))))
+    (refused noAbility d))
+    (refused badChoice d)
 
 -- status s
 unfoldable pub setsStatus : Device → ℕ → Called

@@ -1,6 +1,7 @@
-// The local calls of a device (01, The calls), made in its record, refused with 7, 8, 9 in that order. Only the bytes
-// that a call speaks of are written.
+// The local calls of a device (01, The calls; 02, h), made in its record, refused with 7, 8, 9 in that order. Only the
+// bytes that a call speaks of are written.
 use device::Device;
+use record::CHOICE;
 use record::LOAD;
 use record::LOAD_LENGTH;
 use record::SENT;
@@ -13,7 +14,7 @@ use record_write::clear;
 ghost use mathlib.Core.Path.{_≡_};
 ghost use Prim.Native.Nat.{_≤_};
 ghost use lib.ListN.{length};
-ghost use Rattle.device.specs.Device.{mostData};
+ghost use Rattle.device.specs.Device.{endLast, mostData};
 ghost use Rattle.device.specs.PowerOn.{bytesFrom};
 ghost use Rattle.device.specs.Change.{loading};
 ghost use Rattle.record.specs.Record.{deviceOf, recordOf};
@@ -36,19 +37,20 @@ fn fill(to: &mut [u8], bytes: &[u8])
     bytes::copy(bytes, to);
 }
 
-fn loading(rec: &mut [u8], bytes: &[u8])
+fn loading(rec: &mut [u8], bytes: &[u8], choice: u8)
     requires { ⌜ IsRecord (now rec) × (length (now bytes) ≤ mostData) ⌝ }
-    ensures { λ _. ⌜ now (rec .exit) ≡ recordOf (loading (deviceOf (now (rec .entry))) (now (bytes .entry))) ⌝ }
+    ensures { λ _. ⌜ now (rec .exit) ≡ recordOf (loading (deviceOf (now (rec .entry))) (now (bytes .entry)) choice) ⌝ }
 {
     rec[LOAD_LENGTH] = bytes.len() as u8;
     rec[SENT] = 0;
+    rec[CHOICE] = choice;
     fill(&mut rec[LOAD..SIZE], bytes);
 }
 
-// Load data.
-pub fn load(rec: &mut [u8], bytes: &[u8]) -> u8
-    requires { ⌜ IsRecord (now rec) ⌝ }
-    ensures { λ r. ⌜ InPlace (now (rec .entry)) (loads (deviceOf (now (rec .entry))) (now (bytes .entry))) r
+// Load data; the caller has refused every other choice.
+pub fn load(rec: &mut [u8], bytes: &[u8], choice: u8) -> u8
+    requires { ⌜ IsRecord (now rec) × (choice ≤ endLast) ⌝ }
+    ensures { λ r. ⌜ InPlace (now (rec .entry)) (loads (deviceOf (now (rec .entry))) (now (bytes .entry)) choice) r
         (now (rec .exit)) ⌝ }
 {
     if has(rec, Device::SEND_DATA) {
@@ -58,7 +60,7 @@ pub fn load(rec: &mut [u8], bytes: &[u8]) -> u8
         if rec[TALKER] == Device::SENDING_DATA {
             return BUSY;
         }
-        loading(rec, bytes);
+        loading(rec, bytes, choice);
         return 0;
     }
     NO_ABILITY

@@ -78,7 +78,7 @@ pub fn write(rec: &mut [u8], d: Device)
         d.replied,
         0,
         0,
-        0,
+        d.choice,
         0,
         0,
         0,

@@ -1,8 +1,9 @@
-// The replies of a talker (01, What a device does with a frame, from "Reply bytes are DAB").
+// The replies of a talker (01, What a device does with a frame, from "Reply bytes are DAB"; 02, h).
 use device::Device;
 use frame::C1;
 use frame::C2;
 use record::ACCESSORY;
+use record::CHOICE;
 use record::ID_LENGTH;
 use record::LOAD_LENGTH;
 use record::STATUS;
@@ -55,7 +56,10 @@ fn data_frame(state: State, rec: &[u8]) -> u16
 {
     let byte = load_at(rec, state.sent) as u16;
     if state.sent + 1 == rec[LOAD_LENGTH] {
-        return marked(state, C2 + byte, 0);
+        if rec[CHOICE] == Device::END_LAST {
+            return marked(state, C2 + byte, 0);
+        }
+        return marked(state, byte, 0);
     }
     marked(state, byte, 0)
 }

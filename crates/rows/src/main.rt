@@ -4,6 +4,7 @@ use area::ITEM_SIZE;
 use area::LARGEST;
 use area::LINK_SIZE;
 use area::MOST_DEVICES;
+use device::Device;
 use print::decimal;
 use print::hex;
 use print::text;
@@ -78,7 +79,7 @@ fn no_data() {
 fn loaded(bytes: &[u8]) {
     let mut area = [0u8; 92];
     alone(&mut area);
-    let answer = pil::pil_load(&mut area, 0, bytes);
+    let answer = pil::pil_load(&mut area, 0, bytes, Device::PLAIN_LAST as u64);
     text(b"load ");
     decimal(bytes.len() as u64);
     refusal(answer);

@@ -6,6 +6,8 @@ use area::UNSOUND;
 use judge::contents::contents_sound;
 use judge::shape_right;
 use saved::DEVICE;
+use saved::EDITION;
+use saved::EDITION_AT;
 use saved::HEAD_SIZE;
 use saved::HEADER;
 use saved::HEADER_RECORD;
@@ -22,7 +24,8 @@ ghost use Rattle.record.specs.Record.{recordSize};
 ghost use Rattle.area.specs.Parts.{parts, join};
 ghost use Rattle.area.specs.Loop.{countIn, Shaped};
 ghost use Rattle.calls.specs.Outcome.{Is};
-ghost use Rattle.saved.specs.Saved.{headSize, recorded, savedSize, saved};
+ghost use Rattle.area.specs.Sizes.{headerSize};
+ghost use Rattle.saved.specs.Saved.{headerKind, headSize, recorded, marked, savedSize, saved};
 ghost use Rattle.saved.specs.Calls.{saveOf};
 
 // One record: a head, and the body behind it.
@@ -33,6 +36,15 @@ fn write_record(to: &mut [u8], kind: u8, body: &[u8])
     let head = head_of(kind, body.len());
     bytes::copy(&head, to);
     fill(body, &mut to[HEAD_SIZE..]);
+}
+
+// The header's record, which tells how the save was written.
+fn write_header(to: &mut [u8], header: &[u8])
+    requires { ⌜ (length (now to) ≡ headSize + headerSize) × (length (now header) ≡ headerSize) ⌝ }
+    ensures { λ _. ⌜ now (to .exit) ≡ marked (recorded headerKind (now (header .entry))) ⌝ }
+{
+    write_record(to, HEADER, header);
+    to[EDITION_AT] = EDITION;
 }
 
 // So many bodies of one size, a record each.
@@ -60,7 +72,7 @@ fn write_records(area: &[u8], out: &mut [u8], n: usize)
 {
     let links = HEADER_SIZE + record::SIZE * n;
     let at = links_at(n);
-    write_record(&mut out[..HEADER_RECORD], HEADER, &area[..HEADER_SIZE]);
+    write_header(&mut out[..HEADER_RECORD], &area[..HEADER_SIZE]);
     write_run(
         &area[HEADER_SIZE..],
         &mut out[HEADER_RECORD..at],

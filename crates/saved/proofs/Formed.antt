@@ -1,11 +1,11 @@
--- What the form says of a save, and what it says of the saved form of an area.
-use mathlib.Core.Path.{_≡_, refl, ap, _∙_}
+-- What the form says of a save, and what it says of the saved form of an area and of the one written before.
+use mathlib.Core.Path.{_≡_, refl, sym, ap, _∙_}
 use mathlib.Core.List.{List, [], _∷_, map}
 use mathlib.Core.Bool.{Bool, true, _&&_}
 use Prim.Native.Nat.{ℕ, zero, suc, _+_, _-_, _*_, _≤_, _<_}
 use native.Mathlib.Omega.{arith}
-use lib.ListN.{length, getD, take, drop, List·getD-append}
-use lib.Seq.{length-take-le, getD-take, getD-drop}
+use lib.ListN.{length, getD, set, take, drop, length-set, List·getD-append}
+use lib.Seq.{length-take-le, getD-take, getD-drop, getD-set-same, getD-set-other, set-getD}
 use borrow.Author.Tests.{leb-true, eqb-true, le-leb, eq-eqb}
 use Rattle.device.specs.PowerOn.{bytesFrom}
 use Rattle.record.specs.Record.{recordSize, zeros}
@@ -15,105 +15,208 @@ use Rattle.area.specs.Sizes.{headerSize, linkSize, mostDevices, areaSize}
 use Rattle.area.specs.Parts.{all}
 use Rattle.area.specs.Link.{soundLink}
 use Rattle.area.specs.Loop.{countIn, recordsIn, linksIn, shaped, shapedWith, Shaped, sound}
-use Rattle.saved.specs.Saved.{headerKind, deviceKind, linkKind, headSize, headOf, recorded, body, saved}
+use Rattle.saved.specs.Saved.{headerKind, deviceKind, linkKind, headSize, headOf, recorded, body, editionAt}
+use Rattle.saved.specs.Saved.{unmarked, rowOf, saved, edition}
 use Rattle.saved.specs.Saved.{savedHeaderSize, savedDeviceSize, savedLinkSize, savedSize, savedCount}
 use Rattle.saved.specs.Saved.{savedHeader, savedDevices, savedLinks, formed, contents}
 use Rattle.saved.specs.Saved.{headed}
-use Rattle.saved.specs.Inner.{soundDeviceIn, soundLinkIn}
+use Rattle.saved.specs.Older.{savedBefore, choiceless}
+use Rattle.saved.specs.Inner.{soundDeviceIn, soundLinkIn, choicelessIn}
 use Rattle.saved.proofs.Row.{Row, put-together, seconds-wide, thirds-wide, made}
-use Rattle.saved.proofs.Record.{recorded-wide, body-wide, body-recorded, recorded-is, recorded-body}
+use Rattle.saved.proofs.Record.{recorded-wide, body-wide, body-recorded, recorded-is, marked-recorded}
+use Rattle.saved.proofs.Record.{unmarked-again, marked-again}
 use Rattle.saved.proofs.Record.{bodies-recorded, recorded-are, recorded-bodies}
-
--- ---- the saved form of an area of its length
-
-module _ (a : List ℕ) (h : Shaped a) where
-  row : Row savedHeaderSize savedDeviceSize savedLinkSize (countIn a) (saved a)
-      (recorded headerKind (take headerSize a)) (map (recorded deviceKind) (recordsIn a))
-      (map (recorded linkKind) (linksIn a))
-  unfolding saved
-  row =
-      made headerSize recordSize linkSize (countIn a) a (h .long ∙ omega arith) savedHeaderSize savedDeviceSize
-      savedLinkSize (recorded headerKind) (recorded deviceKind) (recorded linkKind)
-      (recorded-wide headerKind headerSize) (recorded-wide deviceKind recordSize) (recorded-wide linkKind linkSize)
-
-  pub saved-long : length (saved a) ≡ savedSize (countIn a)
-  saved-long = row .long ∙ omega arith
-
-  pub count-saved : savedCount (saved a) ≡ countIn a
-  unfolding saved recorded headOf
-  count-saved =
-      let w : length (take headerSize a) ≡ headerSize = length-take-le headerSize a (omega (arith, h .long)) in
-      List·getD-append (take headerSize a) _ 0 0 (omega arith) ∙ getD-take headerSize a 0 0 (omega arith)
-
-  pub saved-formed : formed mostDevices (saved a) ≡ true
-  unfolding formed headed
-  saved-formed =
-      rw (
-        count-saved,
-        saved-long,
-        le-leb _ _ (h .some),
-        le-leb _ _ (h .few),
-        eq-eqb (savedSize (countIn a)) (savedSize (countIn a)) refl,
-        row .first-is,
-        row .seconds-are,
-        row .thirds-are,
-        recorded-is,
-        recorded-are deviceKind,
-        recorded-are linkKind,
-      )
-
-  pub contents-saved : contents (saved a) ≡ a
-  unfolding contents
-  contents-saved =
-      rw (
-        count-saved,
-        row .first-is,
-        row .seconds-are,
-        row .thirds-are,
-        body-recorded,
-        bodies-recorded deviceKind,
-        bodies-recorded linkKind,
-      )
-      (put-together headerSize recordSize linkSize (countIn a) a (h .long ∙ omega arith))
-
--- ---- a save of the length of its count
 
 all-map : (p : List ℕ → Bool) (f : List ℕ → List ℕ) (xs : List (List ℕ)) → all p (map f xs) ≡ all (λ x. p (f x)) xs
 unfolding all
 all-map p f [] = refl
 all-map p f (x ∷ xs) = ap (λ (t : Bool). p (f x) && t) (all-map p f xs)
 
-module _ (s : List ℕ) (long : length s ≡ savedSize (savedCount s)) where
-  -- the header's bytes stand in the first body
-  header-byte : (i : ℕ) → i < headerSize → getD (contents s) i 0 ≡ getD s (headSize + i) 0
+-- ---- the row of an area of its length, with b for its header
+
+module _ (a : List ℕ) (h : Shaped a) (b : List ℕ) (w : length b ≡ headerSize) (c : getD b 0 0 ≡ countIn a) where
+  abbrev row : List ℕ
+  row =
+      rowOf (recorded headerKind b) (map (recorded deviceKind) (recordsIn a)) (map (recorded linkKind) (linksIn a))
+
+  row-parts : Row savedHeaderSize savedDeviceSize savedLinkSize (countIn a) row (recorded headerKind b)
+      (map (recorded deviceKind) (recordsIn a)) (map (recorded linkKind) (linksIn a))
+  row-parts =
+      made headerSize recordSize linkSize (countIn a) a (h .long ∙ omega arith) savedHeaderSize savedDeviceSize
+      savedLinkSize (λ p. recorded headerKind b) (recorded deviceKind) (recorded linkKind)
+      (λ p l. recorded-wide headerKind headerSize b w) (recorded-wide deviceKind recordSize)
+      (recorded-wide linkKind linkSize)
+
+  row-long : length row ≡ savedSize (countIn a)
+  row-long = row-parts .long ∙ omega arith
+
+  row-count : savedCount row ≡ countIn a
+  unfolding recorded headOf
+  row-count = List·getD-append b _ 0 0 (omega arith) ∙ c
+
+  row-edition : edition row ≡ getD b 1 0
+  unfolding recorded headOf
+  row-edition = List·getD-append b _ 0 1 (omega arith)
+
+  row-formed : getD b 1 0 ≤ 1 → formed mostDevices row ≡ true
+  unfolding formed headed
+  row-formed l =
+      rw (
+        row-count,
+        row-long,
+        le-leb _ _ (h .some),
+        le-leb _ _ (h .few),
+        eq-eqb (savedSize (countIn a)) (savedSize (countIn a)) refl,
+        row-parts .first-is,
+        row-parts .seconds-are,
+        row-parts .thirds-are,
+        recorded-is,
+        recorded-are deviceKind,
+        recorded-are linkKind,
+        row-edition,
+        le-leb _ _ l,
+      )
+
+  row-contents : unmarked b ≡ take headerSize a → contents row ≡ a
   unfolding contents
-  header-byte i h =
-      let w : length (body (savedHeader s)) ≡ headerSize =
-      body-wide headerSize (savedHeader s) (length-take-le savedHeaderSize s (omega arith)) in
-      List·getD-append (body (savedHeader s)) _ 0 i (omega arith) ∙ getD-drop headSize (savedHeader s) i 0
+  row-contents e =
+      rw (
+        row-count,
+        row-parts .first-is,
+        row-parts .seconds-are,
+        row-parts .thirds-are,
+        body-recorded,
+        bodies-recorded deviceKind,
+        bodies-recorded linkKind,
+        e,
+      )
+      (put-together headerSize recordSize linkSize (countIn a) a (h .long ∙ omega arith))
+
+-- ---- the saved form, which has the mark, and the one that was written before
+
+module _ (a : List ℕ) (h : Shaped a) where
+  own : length (take headerSize a) ≡ headerSize
+  own = length-take-le headerSize a (omega (arith, h .long))
+
+  own-count : getD (take headerSize a) 0 0 ≡ countIn a
+  own-count = getD-take headerSize a 0 0 (omega arith)
+
+  own-zero : getD a 1 0 ≡ 0 → getD (take headerSize a) 1 0 ≡ 0
+  own-zero z = getD-take headerSize a 1 0 (omega arith) ∙ z
+
+  abbrev b : List ℕ
+  b = set (take headerSize a) 1 1
+
+  wide : length b ≡ headerSize
+  wide = length-set (take headerSize a) 1 1 ∙ own
+
+  count : getD b 0 0 ≡ countIn a
+  count = getD-set-other (take headerSize a) 1 0 1 0 (λ e. omega arith) ∙ own-count
+
+  mark : getD b 1 0 ≡ 1
+  mark = getD-set-same (take headerSize a) 1 1 0 (rw own (omega arith))
+
+  saved-row : saved a ≡ row a h b wide count
+  unfolding saved
+  saved-row = rw (marked-recorded headerKind (take headerSize a))
+
+  pub saved-long : length (saved a) ≡ savedSize (countIn a)
+  saved-long = rw saved-row (row-long a h b wide count)
+
+  pub count-saved : savedCount (saved a) ≡ countIn a
+  count-saved = rw saved-row (row-count a h b wide count)
+
+  pub edition-saved : edition (saved a) ≡ 1
+  edition-saved = rw saved-row (row-edition a h b wide count ∙ mark)
+
+  pub saved-formed : formed mostDevices (saved a) ≡ true
+  saved-formed = rw saved-row (row-formed a h b wide count (omega (arith, mark)))
+
+  pub contents-saved : getD a 1 0 ≡ 0 → contents (saved a) ≡ a
+  contents-saved z =
+      rw saved-row (row-contents a h b wide count (unmarked-again (take headerSize a) (own-zero z)))
+
+  module _ (z : getD a 1 0 ≡ 0) where
+    pub count-before : savedCount (savedBefore a) ≡ countIn a
+    unfolding savedBefore
+    count-before = row-count a h (take headerSize a) own own-count
+
+    pub edition-before : edition (savedBefore a) ≡ 0
+    unfolding savedBefore
+    edition-before = row-edition a h (take headerSize a) own own-count ∙ own-zero z
+
+    pub before-formed : formed mostDevices (savedBefore a) ≡ true
+    unfolding savedBefore
+    before-formed = row-formed a h (take headerSize a) own own-count (omega (arith, own-zero z))
+
+    pub before-long : length (savedBefore a) ≡ savedSize (savedCount (savedBefore a))
+    unfolding savedBefore
+    before-long = rw (row-count a h (take headerSize a) own own-count) (row-long a h (take headerSize a) own own-count)
+
+    pub choiceless-before : all choiceless (recordsIn a) ≡ true →
+        all choicelessIn (savedDevices (savedBefore a)) ≡ true
+    unfolding savedBefore
+    choiceless-before t =
+        let o = own-count in
+        rw (row-count a h (take headerSize a) own o, row-parts a h (take headerSize a) own o .seconds-are)
+        (sym (all-map choiceless body (map (recorded deviceKind) (recordsIn a)))
+        ∙ ap (all choiceless) (bodies-recorded deviceKind (recordsIn a)) ∙ t)
+
+    pub contents-before : contents (savedBefore a) ≡ a
+    unfolding savedBefore
+    contents-before =
+        row-contents a h (take headerSize a) own own-count
+        (ap (λ (x : ℕ). set (take headerSize a) 1 x) (sym (own-zero z)) ∙ set-getD (take headerSize a) 1 0)
+
+-- ---- a save of the length of its count
+
+module _ (s : List ℕ) (long : length s ≡ savedSize (savedCount s)) where
+  header-wide : length (body (savedHeader s)) ≡ headerSize
+  header-wide = body-wide headerSize (savedHeader s) (length-take-le savedHeaderSize s (omega arith))
+
+  front : (i : ℕ) → i < headerSize → getD (contents s) i 0 ≡ getD (unmarked (body (savedHeader s))) i 0
+  unfolding contents
+  front i h =
+      let w : length (unmarked (body (savedHeader s))) ≡ headerSize =
+      length-set (body (savedHeader s)) 1 0 ∙ header-wide in
+      List·getD-append (unmarked (body (savedHeader s))) _ 0 i (omega arith)
+
+  -- the header's bytes stand in the first body, but for the mark
+  header-byte : (i : ℕ) → i < headerSize → (i ≡ 1 → ⊥) → getD (contents s) i 0 ≡ getD s (headSize + i) 0
+  header-byte i h n =
+      front i h ∙ getD-set-other (body (savedHeader s)) 1 i 0 0 n ∙ getD-drop headSize (savedHeader s) i 0
       ∙ getD-take savedHeaderSize s (headSize + i) 0 (omega arith)
 
-  header-bytes : (n k : ℕ) → k + n ≤ headerSize → bytesFrom k n (contents s) ≡ bytesFrom k n (drop headSize s)
+  header-bytes : (n k : ℕ) → 1 < k → k + n ≤ headerSize →
+      bytesFrom k n (contents s) ≡ bytesFrom k n (drop headSize s)
   unfolding bytesFrom
-  header-bytes zero k h = refl
-  header-bytes (suc n) k h =
-      rw (header-byte k (omega arith), getD-drop, header-bytes n (suc k) (omega arith))
+  header-bytes zero k l h = refl
+  header-bytes (suc n) k l h =
+      rw (header-byte k (omega arith) (λ e. omega arith), getD-drop, header-bytes n (suc k) (omega arith) (omega arith))
+
+  unmarked-held : getD (contents s) 1 0 ≡ 0
+  unmarked-held = front 1 (omega arith) ∙ getD-set-same (body (savedHeader s)) 1 0 0 (rw header-wide (omega arith))
+
+  header-zeros : zeros (bytesFrom 2 6 (drop headSize s)) ≡ zeros (bytesFrom 1 (headerSize - 1) (contents s))
+  unfolding bytesFrom zeros
+  header-zeros = rw unmarked-held (ap zeros (sym (header-bytes 6 2 (omega arith) (omega arith))))
 
   pub count-held : countIn (contents s) ≡ savedCount s
-  count-held = header-byte 0 (omega arith)
+  count-held = header-byte 0 (omega arith) (λ e. omega arith)
 
-  row-held : Row headerSize recordSize linkSize (savedCount s) (contents s) (body (savedHeader s))
+  pub row-held : Row headerSize recordSize linkSize (savedCount s) (contents s) (unmarked (body (savedHeader s)))
       (map body (savedDevices s)) (map body (savedLinks s))
   unfolding contents
   row-held =
       made savedHeaderSize savedDeviceSize savedLinkSize (savedCount s) s (long ∙ omega arith) headerSize recordSize
-      linkSize body body body (body-wide headerSize) (body-wide recordSize) (body-wide linkSize)
+      linkSize (λ p. unmarked (body p)) body body (λ p w. length-set (body p) 1 0 ∙ body-wide headerSize p w)
+      (body-wide recordSize) (body-wide linkSize)
 
   pub contents-long : length (contents s) ≡ areaSize (savedCount s)
   contents-long = row-held .long ∙ omega arith
 
   -- its contents are sound where its bodies are, in their places
-  pub sound-held : (zeros (bytesFrom 1 (headerSize - 1) (drop headSize s)) &&
+  pub sound-held : (zeros (bytesFrom 2 6 (drop headSize s)) &&
       (all soundDeviceIn (savedDevices s) && all soundLinkIn (savedLinks s))) ≡ sound (contents s)
   unfolding sound
   sound-held =
@@ -121,15 +224,15 @@ module _ (s : List ℕ) (long : length s ≡ savedSize (savedCount s)) where
         count-held,
         row-held .seconds-are,
         row-held .thirds-are,
-        header-bytes (headerSize - 1) 1 (omega arith),
+        header-zeros,
         all-map soundRecord body,
         all-map soundLink body,
       )
 
-  -- with its records' lengths and kinds it is the saved form of its contents
-  pub saved-held : headed s ≡ true → saved (contents s) ≡ s
+  -- with its records' lengths and kinds, and the mark, it is the saved form of its contents
+  pub saved-held : headed s ≡ true → edition s ≡ 1 → saved (contents s) ≡ s
   unfolding saved headed
-  saved-held t =
+  saved-held t m =
       let n = savedCount s in
       let l : length s ≡ savedHeaderSize + savedDeviceSize * n + savedLinkSize * suc n = long ∙ omega arith in
       rw (
@@ -137,8 +240,9 @@ module _ (s : List ℕ) (long : length s ≡ savedSize (savedCount s)) where
         row-held .first-is,
         row-held .seconds-are,
         row-held .thirds-are,
-        recorded-body headerKind (savedHeader s) (search left)
-            (rw (length-take-le savedHeaderSize s (omega arith)) (omega arith)),
+        marked-again headerKind (savedHeader s) (search left)
+            (rw (length-take-le savedHeaderSize s (omega arith)) (omega arith))
+            (getD-take savedHeaderSize s editionAt 0 (omega arith) ∙ m),
         recorded-bodies deviceKind savedDeviceSize (savedDevices s)
             (seconds-wide savedHeaderSize savedDeviceSize savedLinkSize n s l) (omega arith) (search (left, right)),
         recorded-bodies linkKind savedLinkSize (savedLinks s)
@@ -153,6 +257,7 @@ pub record Formed (limit : ℕ) (s : List ℕ) : Type 0 where
   pub few : savedCount s ≤ limit
   pub long : length s ≡ savedSize (savedCount s)
   pub heads : headed s ≡ true
+  pub written : edition s ≤ 1
 
 pub is-formed : (limit : ℕ) (s : List ℕ) → formed limit s ≡ true → Formed limit s
 unfolding formed headed
@@ -162,6 +267,7 @@ is-formed limit s h =
       few = leb-true (savedCount s) limit (search (left, right));
       long = eqb-true (length s) (savedSize (savedCount s)) (search (left, right));
       heads = search (left, right);
+      written = leb-true (edition s) 1 (search right);
     }
 
 pub held-shaped : (s : List ℕ) → Formed mostDevices s → shaped (contents s) ≡ true

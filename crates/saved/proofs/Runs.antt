@@ -5,7 +5,7 @@ use Prim.Native.Nat.{ℕ, zero, suc, _+_, _-_, _*_, _≤_, _<_}
 use native.Mathlib.Omega.{arith}
 use native.Mathlib.Nat.{zero-add, suc-add, mul-suc, mul-zero, not-suc-le-zero}
 use lib.ListN.{length, take, drop, length-append, length-drop, drop-of-length-le}
-use lib.Seq.{length-take-le, take-all, take-at, take-nil, drop-nil}
+use lib.Seq.{length-take-le, take-all, take-at, drop-at, take-nil, drop-nil}
 use Rattle.area.specs.Parts.{parts, join}
 use Rattle.area.proofs.Parts.{rest-is}
 
@@ -41,11 +41,19 @@ pub lent-long : (at end m : ℕ) (b : List ℕ) → end ≤ length b → end - a
 lent-long at end m b h e = length-take-le (end - at) (drop at b) (simp length-drop (omega arith)) ∙ e
 
 module _ (at end : ℕ) (to new : List ℕ) (wide : at + length new ≡ end) (fit : end ≤ length to) where
+  so-far : length (take at to ++ new) ≡ end
+  so-far = simp (length-append, length-take-le at to (omega arith)) wide
+
   pub given-so-far : take end (given at end new to) ≡ take at to ++ new
   given-so-far =
-      let w : length (take at to ++ new) ≡ end = simp (length-append, length-take-le at to (omega arith)) wide in
       rw (← (append-assoc (take at to) new (drop (end - at) (drop at to))))
-      (take-at (take at to ++ new) (drop (end - at) (drop at to)) end w)
+      (take-at (take at to ++ new) (drop (end - at) (drop at to)) end so-far)
+
+  -- and what is left is what it was
+  pub given-rest : drop end (given at end new to) ≡ drop (end - at) (drop at to)
+  given-rest =
+      rw (← (append-assoc (take at to) new (drop (end - at) (drop at to))))
+      (drop-at (take at to ++ new) (drop (end - at) (drop at to)) end so-far)
 
   pub given-long : length (given at end new to) ≡ length to
   given-long = simp (length-append, length-take-le at to (omega arith), length-drop) (omega arith)

@@ -1,15 +1,18 @@
 -- What save and open do, by the tests that the code makes: each is one way through the definition's tests.
 use mathlib.Core.Path.{_≡_}
 use mathlib.Core.List.{List}
-use mathlib.Core.Bool.{true, false}
+use mathlib.Core.Bool.{true, false, _&&_}
 use Prim.Native.Nat.{ℕ, _≤_, _<_}
+use lib.Dec.{leb}
 use lib.ListN.{length, List·getD-eq-default}
 use borrow.Author.Tests.{eq-eqb, ne-eqb, lt-leb}
 use Rattle.record.proofs.Both.{never}
 use Rattle.area.specs.Sizes.{isCount, areaSize}
 use Rattle.area.specs.Loop.{countIn, shaped, sound, shape, unsound}
 use Rattle.calls.specs.Outcome.{after}
-use Rattle.saved.specs.Saved.{headSize, saved, savedSize, savedCount, headed, formed, contents}
+use Rattle.saved.specs.Saved.{headSize, saved, savedSize, savedCount, edition, headed, formed, contents}
+use Rattle.saved.specs.Older.{opened, soundSave}
+use Rattle.saved.specs.Inner.{oldOpened}
 use Rattle.saved.specs.Calls.{badSave, saveOf, saveWith, openWith}
 
 module _ (a out : List ℕ) where
@@ -43,13 +46,17 @@ module _ (limit : ℕ) (a s : List ℕ) where
 
   pub open-unsound : formed limit s ≡ true → length a ≡ areaSize (savedCount s) → sound (contents s) ≡ false →
       openWith limit a s ≡ after unsound a
-  unfolding openWith
+  unfolding openWith soundSave
   open-unsound h k t = rw (h, eq-eqb _ _ k, t)
 
-  pub open-done : formed limit s ≡ true → length a ≡ areaSize (savedCount s) → sound (contents s) ≡ true →
-      openWith limit a s ≡ after 0 (contents s)
-  unfolding openWith
-  open-done h k t = rw (h, eq-eqb _ _ k, t)
+  module _ (h : formed limit s ≡ true) (k : length a ≡ areaSize (savedCount s)) (t : sound (contents s) ≡ true) where
+    pub open-new : (edition s ≡ 0 → ⊥) → openWith limit a s ≡ after 0 (contents s)
+    unfolding openWith soundSave opened
+    open-new n = rw (h, eq-eqb _ _ k, t, ne-eqb _ _ n)
+
+    pub open-old : edition s ≡ 0 → openWith limit a s ≡ oldOpened a s
+    unfolding openWith soundSave opened
+    open-old e = rw (h, eq-eqb _ _ k, t, e)
 
 -- ---- the form of a save
 
@@ -68,6 +75,7 @@ module _ (limit : ℕ) (s : List ℕ) where
   unfolding formed
   form-long h = rw (ne-eqb _ _ h, never)
 
-  pub form-heads : isCount limit (savedCount s) ≡ true → length s ≡ savedSize (savedCount s) → headed s ≡ formed limit s
+  pub form-heads : isCount limit (savedCount s) ≡ true → length s ≡ savedSize (savedCount s) →
+      (headed s && leb (edition s) 1) ≡ formed limit s
   unfolding formed headed
   form-heads h l = rw (h, eq-eqb _ _ l)

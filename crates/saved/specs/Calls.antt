@@ -1,4 +1,4 @@
--- Save and open (02, a), with their refusals in the request's order.
+-- Save and open (02, a and h), with their refusals in the request's order.
 use Prim.Native.Nat.{ℕ}
 use mathlib.Core.List.{List}
 use mathlib.Core.Bool.{_&&_, cond}
@@ -7,7 +7,8 @@ use lib.Dec.{eqb}
 use Rattle.area.specs.Sizes.{mostDevices, areaSize}
 use Rattle.area.specs.Loop.{countIn, shape, unsound, shapedWith, sound}
 use Rattle.calls.specs.Outcome.{After, after}
-use Rattle.saved.specs.Saved.{saved, savedSize, savedCount, formed, contents}
+use Rattle.saved.specs.Saved.{saved, savedSize, savedCount, formed}
+use Rattle.saved.specs.Older.{opened, soundSave}
 
 -- refusal: not the form of a save
 abbrev pub badSave : ℕ
@@ -27,7 +28,7 @@ unfoldable pub openWith : ℕ → List ℕ → List ℕ → After ℕ
 openWith limit a s =
     cond (formed limit s)
     (cond (eqb (length a) (areaSize (savedCount s)))
-    (cond (sound (contents s)) (after 0 (contents s)) (after unsound a))
+    (cond (soundSave s) (after 0 (opened s)) (after unsound a))
     (after shape a))
     (after badSave a)
 

@@ -1,12 +1,15 @@
--- The laws of saved loops (02, a), as statements. Their proofs are in proofs/Laws.antt.
+-- The laws of saved loops (02, a and h), as statements. Their proofs are in proofs/Laws.antt.
 use Prim.Native.Nat.{ℕ, _+_, _*_}
 use mathlib.Core.Path.{_≡_}
+use mathlib.Core.Bool.{true, false}
 use mathlib.Core.List.{List}
 use lib.ListN.{length}
 use Rattle.record.specs.Fits.{Bytes}
-use Rattle.area.specs.Loop.{countIn, judgeOf}
+use Rattle.area.specs.Parts.{all}
+use Rattle.area.specs.Loop.{countIn, recordsIn, judgeOf}
 use Rattle.calls.specs.Outcome.{after}
-use Rattle.saved.specs.Saved.{saved, savedSize, contents}
+use Rattle.saved.specs.Saved.{saved, savedSize}
+use Rattle.saved.specs.Older.{savedBefore, old, choiceless, upgrade, upgraded, opened, askedArea}
 use Rattle.saved.specs.Calls.{saveOf, openOf}
 
 -- A save of n devices is 30 + 86n bytes, and an area's saved form has that length
@@ -24,19 +27,31 @@ OpenOver = (a b : List ℕ) → judgeOf a ≡ 0 → judgeOf b ≡ 0 → countIn 
 
 -- One saved form: what a save opens to has no refusal, and that save is its saved form,
 abbrev pub OneForm : Type 0
-OneForm = (a lent s : List ℕ) → openOf lent s ≡ after 0 a → (judgeOf a ≡ 0) × (s ≡ saved a)
+OneForm = (a lent s : List ℕ) → openOf lent s ≡ after 0 a → old s ≡ false → (judgeOf a ≡ 0) × (s ≡ saved a)
 
--- so that saving it again gives that save in any output of its length
+-- or, where the save is old, its upgrade is,
+abbrev pub OldForm : Type 0
+OldForm = (a lent s : List ℕ) → Bytes s → openOf lent s ≡ after 0 a → old s ≡ true →
+    (judgeOf a ≡ 0) × (upgrade s ≡ saved a)
+
+-- so that saving it again gives that save, or its upgrade, in any output of its length
 abbrev pub SaveOpened : Type 0
-SaveOpened = (a lent s out : List ℕ) → openOf lent s ≡ after 0 a → length out ≡ length s → saveOf a out ≡ after 0 s
+SaveOpened = (a lent s out : List ℕ) → Bytes s → openOf lent s ≡ after 0 a → length out ≡ length s →
+    saveOf a out ≡ after 0 (upgraded s)
 
 -- and two areas without a refusal that have one saved form are one area
 abbrev pub SavedOnce : Type 0
 SavedOnce = (a b : List ℕ) → judgeOf a ≡ 0 → judgeOf b ≡ 0 → saved a ≡ saved b → a ≡ b
 
--- The saved form of bytes is bytes, and what a save of bytes holds is
+-- What was written before still opens: an area without a refusal in which no device has a choice, as all were then,
+-- comes back with END chosen by each device with data
+abbrev pub OldOpens : Type 0
+OldOpens = (a lent : List ℕ) → judgeOf a ≡ 0 → all choiceless (recordsIn a) ≡ true → length lent ≡ length a →
+    openOf lent (savedBefore a) ≡ after 0 (askedArea a)
+
+-- The saved form of bytes is bytes, and what a save of bytes opens to is
 abbrev pub SavedBytes : Type 0
 SavedBytes = (a : List ℕ) → Bytes a → Bytes (saved a)
 
-abbrev pub ContentsBytes : Type 0
-ContentsBytes = (s : List ℕ) → Bytes s → Bytes (contents s)
+abbrev pub OpenedBytes : Type 0
+OpenedBytes = (s : List ℕ) → Bytes s → Bytes (opened s)

@@ -1,10 +1,10 @@
--- The saved form of a loop (02, a): a row of records, each a four-byte body length, a two-byte kind and the body, the
--- numbers little-endian. How it is written from an area, and how a save is read.
+-- The saved form of a loop (02, a and h): a row of records, each a four-byte body length, a two-byte kind and the body,
+-- the numbers little-endian. How it is written from an area, and how a save is read.
 use Prim.Native.Nat.{ℕ, zero, suc, _+_, _*_, _/_, _%_}
 use mathlib.Core.List.{List, [], _∷_, _++_, map}
 use mathlib.Core.Bool.{Bool, true, _&&_}
-use lib.ListN.{length, getD, take, drop}
-use lib.Dec.{eqb}
+use lib.ListN.{length, getD, set, take, drop}
+use lib.Dec.{eqb, leb}
 use Rattle.record.specs.Record.{recordSize}
 use Rattle.area.specs.Sizes.{headerSize, linkSize, isCount}
 use Rattle.area.specs.Parts.{parts, join, all}
@@ -43,11 +43,26 @@ body r = drop headSize r
 
 -- ---- Written
 
--- the saved form of an area: its header, once and first, then each device's record, then each link, in order
+-- kind 1's byte 1 tells how a save was written (02, h): 0 before loads took a choice, 1 since. The area's own is zero
+abbrev pub editionAt : ℕ
+editionAt = headSize + 1
+
+-- a record of kind 1 with 1 there, and a body with the area's own byte
+abbrev pub marked : List ℕ → List ℕ
+marked r = set r editionAt 1
+
+abbrev pub unmarked : List ℕ → List ℕ
+unmarked b = set b 1 0
+
+-- the records of an area: its header, once and first, then each device's record, then each link, in order
+abbrev pub rowOf : (header : List ℕ) (devices links : List (List ℕ)) → List ℕ
+rowOf h ds ls = h ++ (join ds ++ join ls)
+
+-- the saved form of an area
 unfoldable pub saved : List ℕ → List ℕ
 saved a =
-    recorded headerKind (take headerSize a)
-    ++ (join (map (recorded deviceKind) (recordsIn a)) ++ join (map (recorded linkKind) (linksIn a)))
+    rowOf (marked (recorded headerKind (take headerSize a)))
+    (map (recorded deviceKind) (recordsIn a)) (map (recorded linkKind) (linksIn a))
 
 -- ---- Read
 
@@ -72,7 +87,11 @@ savedSize n = savedLinksAt n + savedLinkSize * (n + 1)
 abbrev pub savedCount : List ℕ → ℕ
 savedCount s = getD s headSize 0
 
--- its parts, by that number
+-- how it was written
+abbrev pub edition : List ℕ → ℕ
+edition s = getD s editionAt 0
+
+-- its parts, by the number of devices
 abbrev pub savedHeader : List ℕ → List ℕ
 savedHeader s = take savedHeaderSize s
 
@@ -97,12 +116,12 @@ headed s =
     isOf headerKind (savedHeader s) &&
     (all (isOf deviceKind) (savedDevices s) && all (isOf linkKind) (savedLinks s))
 
--- a save in form, to a reader of at most so many devices: its count, its end, and its records
+-- a save in form, to a reader of at most so many devices: its count, its end, its records, and how it was written
 unfoldable pub formed : ℕ → List ℕ → Bool
 formed limit s =
-    isCount limit (savedCount s) && (eqb (length s) (savedSize (savedCount s)) && headed s)
+    isCount limit (savedCount s) &&
+    (eqb (length s) (savedSize (savedCount s)) && (headed s && leb (edition s) 1))
 
 -- the area that a save holds: its bodies
 unfoldable pub contents : List ℕ → List ℕ
-contents s =
-    body (savedHeader s) ++ (join (map body (savedDevices s)) ++ join (map body (savedLinks s)))
+contents s = rowOf (unmarked (body (savedHeader s))) (map body (savedDevices s)) (map body (savedLinks s))

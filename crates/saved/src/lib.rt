@@ -18,6 +18,11 @@ pub const DEVICE_RECORD: usize = HEAD_SIZE + record::SIZE;
 
 pub const LINK_RECORD: usize = HEAD_SIZE + LINK_SIZE;
 
+// Where a save tells how it was written, and how it does now: kind 1's byte 1.
+pub const EDITION_AT: usize = HEAD_SIZE + 1;
+
+pub const EDITION: u8 = 1;
+
 // Refusal: not the form of a save.
 pub const BAD_SAVE: u8 = 10;
 

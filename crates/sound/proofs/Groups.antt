@@ -4,39 +4,37 @@ use mathlib.Core.Path.{_≡_, refl}
 use mathlib.Core.Bool.{Bool, true, false, _&&_}
 use mathlib.Core.List.{List}
 use lib.Dec.{eqb, leb}
-use lib.ListN.{getD, take, drop}
+use lib.ListN.{getD, drop}
 use borrow.Author.Tests.{eq-eqb}
 use Rattle.device.specs.PowerOn.{bytesFrom, powerOn}
-use Rattle.record.specs.Record.{deviceOf, zeros}
+use Rattle.record.specs.Record.{deviceOf, spare, zeros}
 use Rattle.record.specs.Sound.{inRange, zeroPast, serviceWithStatus, unaddressWithBoth, unconfiguredFixed}
 use Rattle.record.specs.Sound.{configuredAble, listenerAble, serviceAble, soundDevice, soundRecord}
 use Rattle.talker_sound.specs.Talker.{talkerRight}
 use Rattle.sound.specs.Groups.{abilitiesAllowed, ableAll}
 
-regrouped : (p q i z s u f c l v t : Bool) →
-    (p && (q && (i && (z && (s && (u && (f && (c && (l && (v && t)))))))))) ≡
-    (((p && q) && i) && (z && (((s && u) && ((f && c) && (l && v))) && t)))
-regrouped true true true true true true true true true v t = refl
-regrouped true true true true true true true true false v t = refl
-regrouped true true true true true true true false l v t = refl
-regrouped true true true true true true false c l v t = refl
-regrouped true true true true true false f c l v t = refl
-regrouped true true true true false u f c l v t = refl
-regrouped true true true false s u f c l v t = refl
-regrouped true true false z s u f c l v t = refl
-regrouped true false i z s u f c l v t = refl
-regrouped false q i z s u f c l v t = refl
+regrouped : (p i z s u f c l v t : Bool) →
+    (p && (i && (z && (s && (u && (f && (c && (l && (v && t))))))))) ≡
+    ((p && i) && (z && (((s && u) && ((f && c) && (l && v))) && t)))
+regrouped true true true true true true true true v t = refl
+regrouped true true true true true true true false v t = refl
+regrouped true true true true true true false l v t = refl
+regrouped true true true true true false c l v t = refl
+regrouped true true true true false f c l v t = refl
+regrouped true true true false u f c l v t = refl
+regrouped true true false s u f c l v t = refl
+regrouped true false z s u f c l v t = refl
+regrouped false i z s u f c l v t = refl
 
 pub grouped : (b : List ℕ) →
     let d = deviceOf b in
     soundRecord b ≡
-    (((eqb (getD b 7 0) 0 && zeros (take 7 (drop 17 b))) && inRange d) &&
-    (zeroPast d && (ableAll d && talkerRight d)))
+    ((zeros (spare b) && inRange d) && (zeroPast d && (ableAll d && talkerRight d)))
 unfolding soundRecord soundDevice
 grouped b =
     let d = deviceOf b in
-    regrouped (eqb (getD b 7 0) 0) (zeros (take 7 (drop 17 b))) (inRange d) (zeroPast d) (serviceWithStatus d)
-    (unaddressWithBoth d) (unconfiguredFixed d) (configuredAble d) (listenerAble d) (serviceAble d) (talkerRight d)
+    regrouped (zeros (spare b)) (inRange d) (zeroPast d) (serviceWithStatus d) (unaddressWithBoth d)
+    (unconfiguredFixed d) (configuredAble d) (listenerAble d) (serviceAble d) (talkerRight d)
 
 -- at power-on only the item's values are left to test
 pub at-power-on : (item : List ℕ) →

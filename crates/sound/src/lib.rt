@@ -3,6 +3,7 @@
 use device::Device;
 use record::ABILITIES;
 use record::ADDRESS;
+use record::CHOICE;
 use record::CONFIGURED;
 use record::FIXED;
 use record::ID_LENGTH;
@@ -36,7 +37,8 @@ fn in_range(rec: &[u8]) -> bool
                         & ((rec[SERVICE] <= Device::POLLED)
                             & ((rec[NOTED] <= 1)
                                 & ((rec[ID_LENGTH] <= Device::MOST_ID as u8)
-                                    & (rec[LOAD_LENGTH] <= Device::MOST_DATA as u8))))))))
+                                    & ((rec[LOAD_LENGTH] <= Device::MOST_DATA as u8)
+                                        & (rec[CHOICE] <= Device::END_LAST)))))))))
 }
 
 // 128 only with 4.

@@ -17,10 +17,11 @@ use Rattle.area.specs.Parts.{parts, join, all}
 use Rattle.area.specs.Link.{framesOf, linkOf, soundSlot, soundLink}
 use Rattle.area.specs.Loop.{loopOf, areaOf, shapedWith, sound, judgeWith}
 use Rattle.calls.specs.Outcome.{callWith}
-use Rattle.calls.specs.Calls.{putIn, takeIn, hopIn, localIn}
+use Rattle.calls.specs.Calls.{putIn, takeIn, hopIn, localIn, loadIn}
 use Rattle.calls.specs.Drain.{canHop, highest, drainFrom}
 use Rattle.calls.specs.SetUp.{itemsFit, setUpWith}
 use Rattle.saved.specs.Saved.{headOf, recorded, saved, stands, isOf, headed, formed, contents}
+use Rattle.saved.specs.Older.{savedBefore, upgrade, opened, soundSave}
 use Rattle.saved.specs.Calls.{saveWith, openWith}
 use Rattle.demands.specs.Histories.{areaLeft}
 use Rattle.demands.specs.Demands.{AllEmpty}
@@ -30,8 +31,8 @@ empty : AllEmpty (areaLeft fresh mixed)
 unfolding messages kindAt lookup within firstIn firstOf hasC1 offsetIn c1In choose powerOn bytesFrom lad tad aau
     marked requested polls sst nrd aad returned heard dataOrEnd takes loads deviceOf recordOf zeros soundDevice
     soundRecord allowed parts join all framesOf linkOf soundSlot soundLink loopOf areaOf shapedWith sound judgeWith
-    callWith putIn takeIn hopIn localIn itemsFit setUpWith canHop highest drainFrom headOf recorded saved stands isOf
-    headed formed contents saveWith openWith
+    callWith putIn takeIn hopIn localIn loadIn itemsFit setUpWith canHop highest drainFrom headOf recorded saved stands
+    isOf headed formed contents upgrade opened soundSave saveWith openWith
 empty zero = refl
 empty (suc zero) = refl
 empty (suc (suc zero)) = refl
@@ -41,8 +42,8 @@ pub example : Example
 unfolding messages kindAt lookup within firstIn firstOf hasC1 offsetIn c1In choose powerOn bytesFrom lad tad aau
     marked requested polls sst nrd aad returned heard dataOrEnd takes loads deviceOf recordOf zeros soundDevice
     soundRecord allowed parts join all framesOf linkOf soundSlot soundLink loopOf areaOf shapedWith sound judgeWith
-    callWith putIn takeIn hopIn localIn itemsFit setUpWith canHop highest drainFrom headOf recorded saved stands isOf
-    headed formed contents saveWith openWith
+    callWith putIn takeIn hopIn localIn loadIn itemsFit setUpWith canHop highest drainFrom headOf recorded saved stands
+    isOf headed formed contents savedBefore upgrade opened soundSave saveWith openWith
 example =
     record {
       set-up = refl;
@@ -62,6 +63,7 @@ example =
       saved-header = refl;
       saved-device = refl;
       saved-link = refl;
+      old-opened = refl;
       opened-is = refl;
       later-in-turn = refl;
       later-hops = refl;

@@ -26,7 +26,7 @@ use Rattle.area.specs.Parts.{parts, join, all}
 use Rattle.area.specs.Link.{framesOf, linkOf, soundSlot, soundLink}
 use Rattle.area.specs.Loop.{countIn, loopOf, areaOf, shapedWith, sound, judgeWith, device, link}
 use Rattle.calls.specs.Outcome.{After, callWith}
-use Rattle.calls.specs.Calls.{hopAnswer, hopIn}
+use Rattle.calls.specs.Calls.{hopAnswer, hopIn, loadIn}
 use Rattle.saved.specs.Saved.{saved, formed}
 use Rattle.saved.specs.Calls.{openWith, openOf}
 use Rattle.saved.proofs.Laws.{open-saved, saved-bytes}
@@ -36,8 +36,8 @@ use Rattle.demands.specs.Histories.{Got, handedBy, hopsBy}
 use Rattle.demands.specs.Drains.{highestOf, stopsBefore, onceHopped, byHops}
 use Rattle.demands.specs.Demands.{Judged, CanHop, ruled, hopLeaves, Obeys}
 use Rattle.demands.proofs.First.{demand-1}
-use Rattle.teeth.specs.Teeth.{RefuserShutOut, LowestGiven, TenFirst, frameIn, kindIn, OneKindShutOut}
-use Rattle.teeth.specs.Teeth.{PasserShutOut, WorkerShutOut, InventedCountShutOut}
+use Rattle.teeth.specs.Teeth.{RefuserShutOut, LowestGiven, TenFirst, ChoiceFirst, frameIn, kindIn}
+use Rattle.teeth.specs.Teeth.{OneKindShutOut, PasserShutOut, WorkerShutOut, InventedCountShutOut}
 
 -- ---- three loops: fresh devices that can be auto-addressed, and AAD 0 before the first, or nothing
 
@@ -135,6 +135,11 @@ lowest-given = record { five = refl; six = refl; given = refl }
 pub ten-first : TenFirst
 unfolding formed openWith
 ten-first = record { ten = refl; one = refl; given = refl }
+
+pub choice-first : ChoiceFirst
+unfolding powerOn bytesFrom deviceOf recordOf zeros soundDevice soundRecord parts join all framesOf linkOf soundSlot
+    soundLink loopOf areaOf shapedWith sound judgeWith callWith loadIn
+choice-first = record { two = refl; three = refl; given = refl }
 
 -- ---- demand 2
 

@@ -10,6 +10,7 @@ use lib.ListN.{length, replicate}
 use Rattle.area.specs.Sizes.{areaSize}
 use Rattle.area.specs.Parts.{part}
 use Rattle.saved.specs.Saved.{saved, savedSize}
+use Rattle.saved.specs.Older.{savedBefore}
 use Rattle.saved.specs.Calls.{openOf}
 use Rattle.demands.specs.Calls.{Byte, Action, put, hop, take, load, drain, owes, onArea, setUp, owing, pil}
 use Rattle.demands.specs.Conditions.{due}
@@ -50,14 +51,18 @@ abbrev pub mixed : List Step
 mixed =
     begun ++
     (overnight ∷ calls (
-    load 0 (byte 0x42 tt ∷ []) ∷ hop 0 ∷ hop 1 ∷ hop 1 ∷ take ∷ take ∷
+    load 0 (byte 0x42 tt ∷ []) 1 ∷ hop 0 ∷ hop 1 ∷ hop 1 ∷ take ∷ take ∷
     put 0x041 ∷ drain 9 ∷ take ∷ take ∷ []))
 
 abbrev pub round : List Step
 round = calls (
     put 0x580 ∷ hop 0 ∷ hop 1 ∷ take ∷
-    put 0x421 ∷ load 0 (byte 0x42 tt ∷ []) ∷ hop 0 ∷ hop 1 ∷ take ∷
+    put 0x421 ∷ load 0 (byte 0x42 tt ∷ []) 1 ∷ hop 0 ∷ hop 1 ∷ take ∷
     put 0x041 ∷ hop 0 ∷ hop 1 ∷ take ∷ [])
+
+-- device 0 loaded with that byte, by a choice
+abbrev pub loaded : ℕ → List ℕ
+loaded e = areaLeft fresh (calls (load 0 (byte 0x42 tt ∷ []) e ∷ []))
 
 -- the loop as begun, opened the next day for a history of its own
 abbrev pub opened : List ℕ
@@ -95,11 +100,13 @@ pub record Example : Type 0 where
   -- the second is the first in turn, and leaves the same bytes
   pub in-turn : inTurn fresh mixed ≡ round
   pub same-area : same (areaLeft fresh mixed) (areaLeft fresh round) ≡ true
-  -- the save of two devices: its length, what stands before a body of each kind, and the header
+  -- the save of two devices: its length, what stands before a body of each kind, and the header, marked
   pub saved-long : length (saved fresh) ≡ 202
-  pub saved-header : part 0 14 (saved fresh) ≡ 8 ∷ 0 ∷ 0 ∷ 0 ∷ 1 ∷ 0 ∷ 2 ∷ 0 ∷ 0 ∷ 0 ∷ 0 ∷ 0 ∷ 0 ∷ 0 ∷ []
+  pub saved-header : part 0 14 (saved fresh) ≡ 8 ∷ 0 ∷ 0 ∷ 0 ∷ 1 ∷ 0 ∷ 2 ∷ 1 ∷ 0 ∷ 0 ∷ 0 ∷ 0 ∷ 0 ∷ 0 ∷ []
   pub saved-device : part 14 6 (saved fresh) ≡ 64 ∷ 0 ∷ 0 ∷ 0 ∷ 2 ∷ 0 ∷ []
   pub saved-link : part (202 - 16) 6 (saved fresh) ≡ 10 ∷ 0 ∷ 0 ∷ 0 ∷ 3 ∷ 0 ∷ []
+  -- the form written before loads took a choice opens as if the load had asked for END (02, h)
+  pub old-opened : same (openOf blank (savedBefore (loaded 0)) .area) (loaded 1) ≡ true
   -- the opening leaves what was saved; its frames go first, and its hops are the three owed and two for the frame put
   pub opened-is : same opened (areaLeft fresh begun) ≡ true
   pub later-in-turn : inTurn opened later ≡ laterInTurn

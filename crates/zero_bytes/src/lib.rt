@@ -5,10 +5,8 @@ use record::LOAD;
 use record::LOAD_LENGTH;
 use record::SIZE;
 ghost use mathlib.Core.Path.{_≡_};
-ghost use mathlib.Core.Bool.{_&&_};
-ghost use lib.Dec.{eqb};
-ghost use lib.ListN.{length, getD, take, drop};
-ghost use Rattle.record.specs.Record.{recordSize, deviceOf, zeros};
+ghost use lib.ListN.{length, drop};
+ghost use Rattle.record.specs.Record.{recordSize, deviceOf, spare, zeros};
 ghost use Rattle.record.specs.Sound.{zeroPast};
 
 // All bytes from a place on are zero. No turn ends the loop early, so that many bytes are tested at a time.
@@ -34,12 +32,15 @@ pub fn zero_past_length(s: &[u8], length: u8) -> bool
     zeros_from(s, length as usize)
 }
 
-// Bytes 7 and 17 to 23.
+// Bytes 7, 17, 18 and 20 to 23.
 pub fn spare_zero(rec: &[u8]) -> bool
     requires { ⌜ length (now rec) ≡ recordSize ⌝ }
-    ensures { λ r. ⌜ r ≡ (eqb (getD (now (rec .entry)) 7 0) 0 && zeros (take 7 (drop 17 (now (rec .entry))))) ⌝ }
+    ensures { λ r. ⌜ r ≡ zeros (spare (now (rec .entry))) ⌝ }
 {
-    (rec[7] == 0) & zeros_from(&rec[17..24], 0)
+    (rec[7] == 0)
+        & ((rec[17] == 0)
+            & ((rec[18] == 0)
+                & ((rec[20] == 0) & ((rec[21] == 0) & ((rec[22] == 0) & (rec[23] == 0))))))
 }
 
 fn id_zero_past(rec: &[u8]) -> bool

@@ -20,7 +20,7 @@ use Rattle.bodies.proofs.bodies_sound.Statement.{statement}
 use Rattle.bodies.proofs.bodies_sound.Tie as tie
 
 together : (s : List ℕ) (x y z : Bool) (n m l head from at : ℕ) → SaveOf n s →
-    x ≡ zeros (bytesFrom 1 7 (take (length s - head) (drop head s))) →
+    x ≡ zeros (bytesFrom 2 6 (take (length s - head) (drop head s))) →
     y ≡ all soundDeviceIn (parts savedDeviceSize m (take (length s - from) (drop from s))) →
     z ≡ all soundLinkIn (parts savedLinkSize l (take (length s - at) (drop at s))) → head ≡ headSize → m ≡ n →
     from ≡ savedHeaderSize → l ≡ n + 1 → at ≡ savedLinksAt n → (x && (y && z)) ≡ sound (contents s)
@@ -34,7 +34,7 @@ returns c =
     let h = d .before .before in
     let k = h .before .before in
     let s = k .before .before in
-    together (s .args .save .now) _ _ _ (s .args .n) _ _ _ _ _ (s .pre) (h .header-sound .ensures)
+    together (s .args .save .now) _ _ _ (s .args .n) _ _ _ _ _ (s .pre) (h .rest-zero .ensures)
     (d .device-bodies-sound .ensures) (c .link-bodies-sound .ensures) refl (omega arith) refl (omega arith)
     (k .links-at .ensures)
 

@@ -10,13 +10,14 @@ use Rattle.area.specs.Sizes.{headerSize, recordAt}
 use Rattle.area.specs.Parts.{parts, join}
 use Rattle.area.proofs.Parts.{rest-is}
 use Rattle.saved.specs.Saved.{headSize, savedHeaderSize, savedDeviceSize, savedLinkSize, savedLinksAt, savedCount}
-use Rattle.saved.specs.Saved.{body, contents}
+use Rattle.saved.specs.Saved.{body, unmarked, contents}
 use Rattle.saved.proofs.Runs.{part-of, lent-long, three}
 use borrow.Author.Needs.{needs}
 use Rattle.bodies.proofs.read_bodies.Statement.{statement}
 use Rattle.bodies.proofs.read_bodies.Tie as tie
 
-together : (s p ds ls : List ℕ) (n m l from at : ℕ) → n ≡ savedCount s → p ≡ take headerSize (drop headSize s) →
+together : (s p ds ls : List ℕ) (n m l from at : ℕ) → n ≡ savedCount s →
+    p ≡ unmarked (take headerSize (drop headSize s)) →
     ds ≡ join (map body (parts savedDeviceSize m (take (length s - from) (drop from s)))) →
     ls ≡ join (map body (parts savedLinkSize l (take (length s - at) (drop at s)))) → m ≡ n →
     from ≡ savedHeaderSize → l ≡ n + 1 → at ≡ savedLinksAt n → p ++ (ds ++ ls) ≡ contents s
@@ -24,18 +25,18 @@ unfolding contents
 together s p ds ls n m l from at c x y z e f g h =
     rw (x, part-of headSize headerSize s, y, z, rest-is from s, rest-is at s, e, f, g, h, add-one, c)
 
-area-prefix : tie.Need-slice-aggregate-fill
+area-prefix : tie.Need-slice-aggregate-read-header
 area-prefix c = let s = c .before .before .before .before .before in
     sym (length-take-le headerSize (s .args .area .now) (search needs))
 
-fill-requires : tie.Need-fill-requires
-fill-requires c κs =
+read-header-requires : tie.Need-read-header-requires
+read-header-requires c κs =
     let s = c .before .before .before .before .before in
     rw (
       length-take-le headerSize (s .args .area .now) (search needs),
       lent-long headSize savedHeaderSize headerSize (s .args .save .now) (search needs) (omega arith),
     )
-    (refl, omega arith)
+    (refl, refl)
 
 returns : tie.Need-returns
 returns c =
@@ -44,10 +45,10 @@ returns c =
     let h = d .before .before .before .before .before in
     let k = h .before .before .before in
     let s = k .before .before .before in
-    three headerSize (recordAt (s .args .n)) (s .args .area .now) (h .fill .last .1 .0) (d .read-run .last .1 .0)
-    (y .read-run2 .last .1 .0) (omega arith) (search needs) (h .fill .kept .1 .0) (d .read-run .kept .1 .0)
+    three headerSize (recordAt (s .args .n)) (s .args .area .now) (h .read-header .last .1 .0) (d .read-run .last .1 .0)
+    (y .read-run2 .last .1 .0) (omega arith) (search needs) (h .read-header .kept .1 .0) (d .read-run .kept .1 .0)
     (y .read-run2 .kept .1 .0)
-    ∙ together (s .args .save .now) _ _ _ (s .args .n) _ _ _ _ (s .pre .0 .count) (h .fill .ensures)
+    ∙ together (s .args .save .now) _ _ _ (s .args .n) _ _ _ _ (s .pre .0 .count) (h .read-header .ensures)
     (d .read-run .ensures) (y .read-run2 .ensures) (omega arith) refl (omega arith) (k .links-at .ensures)
 
 pub read-bodies-spec : {M : Type 1} → statement M
@@ -62,7 +63,7 @@ read-bodies-spec =
     (λ c. search needs)
     (λ c. search needs)
     area-prefix
-    fill-requires
+    read-header-requires
     (λ c. search needs)
     (λ c. search needs)
     (λ c. search needs)

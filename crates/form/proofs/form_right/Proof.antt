@@ -1,4 +1,4 @@
--- A save too short for a count has none; else the tests of its count and of its length, and then the heads.
+-- A save too short for a count has none; else the tests of its count and of its length, then the heads and the mark.
 use mathlib.Core.Path.{refl, sym, _∙_}
 use native.Mathlib.Omega.{arith}
 use borrow.Author.Tests.{not-true, not-false}
@@ -35,11 +35,12 @@ heads-right-requires c κs =
 
 returns-4 : tie.Need-returns-4
 returns-4 c =
-    let t = c .before .before .before in
+    let h = c .before in
+    let t = h .before .before .before in
     let k = t .before in
-    c .heads-right .ensures
-    ∙ form-heads mostDevices _ (sym (k .is-count .ensures) ∙ not-false (k .is-count .result) (t .if2 .left))
-    (omega arith)
+    rw (h .heads-right .ensures)
+    (form-heads mostDevices _ (sym (k .is-count .ensures) ∙ not-false (k .is-count .result) (t .if2 .left))
+    (omega arith))
 
 pub form-right-spec : {M : Type 1} → statement M
 form-right-spec =
@@ -53,4 +54,5 @@ form-right-spec =
     saved-size-requires
     returns-3
     heads-right-requires
+    (λ c. search needs)
     returns-4)

@@ -1,4 +1,5 @@
--- The form's refusal, then the lent area's length, then the contents'; else what the save holds.
+-- The form's refusal, then the lent area's length, then the contents'; else what an old save comes to, or what the save
+-- holds.
 use mathlib.Core.Path.{_≡_, refl, sym, _∙_}
 use mathlib.Core.Bool.{true}
 use native.Mathlib.Omega.{arith}
@@ -6,7 +7,7 @@ use borrow.Author.Tests.{not-true, not-false}
 use Rattle.area.specs.Sizes.{mostDevices}
 use Rattle.saved.specs.Saved.{formed}
 use Rattle.saved.proofs.Formed.{is-formed}
-use Rattle.saved.proofs.Tests.{open-bad, open-shape, open-unsound, open-done}
+use Rattle.saved.proofs.Tests.{open-bad, open-shape, open-unsound, open-new, open-old}
 use borrow.Author.Needs.{needs}
 use Rattle.open.proofs.open.Statement.{statement}
 use Rattle.open.proofs.open.Tie as tie
@@ -57,9 +58,12 @@ returns-3 c =
     (omega (arith, i .if2 .left, z .area-size .ensures))
     (sym (b .bodies-sound .ensures) ∙ not-true _ (c .if3 .taken))) (refl, refl)
 
-read-bodies-requires : tie.Need-read-bodies-requires
-read-bodies-requires c κs =
-    let i = c .before .before .before in
+edition-read : tie.Need-shared-slice-read-if4
+edition-read c = omega (arith, is-formed mostDevices _ (right (c .before .before .before .before .before)))
+
+open-old-requires : tie.Need-open-old-requires
+open-old-requires c κs =
+    let i = c .before .before .before .before .before in
     let z = i .before in
     let f = is-formed mostDevices _ (right (z .before)) in (
       record { count = refl; small = omega (arith, f .few); long = f .long },
@@ -68,15 +72,41 @@ read-bodies-requires c κs =
 
 returns-4 : tie.Need-returns-4
 returns-4 c =
-    let w = c .before .before in
-    let t = w .before .before in
+    let o = c .before .before in
+    let e = o .before .before in
+    let t = e .before .before in
     let b = t .before in
     let i = b .before in
     let z = i .before in
     let k = z .before in
     let s = k .before .before .before .before .before in
-    rw (open-done mostDevices (s .args .area .now) (s .args .save .now) (right k)
-    (omega (arith, i .if2 .left, z .area-size .ensures)) (sym (b .bodies-sound .ensures) ∙ not-false _ (t .if3 .left)))
+    rw (open-old mostDevices (s .args .area .now) (s .args .save .now) (right k)
+    (omega (arith, i .if2 .left, z .area-size .ensures)) (sym (b .bodies-sound .ensures) ∙ not-false _ (t .if3 .left))
+    (omega (arith, e .if4 .taken)))
+    (o .open-old .ensures)
+
+read-bodies-requires : tie.Need-read-bodies-requires
+read-bodies-requires c κs =
+    let i = c .before .before .before .before .before in
+    let z = i .before in
+    let f = is-formed mostDevices _ (right (z .before)) in (
+      record { count = refl; small = omega (arith, f .few); long = f .long },
+      omega (arith, i .if2 .left, z .area-size .ensures),
+    )
+
+returns-5 : tie.Need-returns-5
+returns-5 c =
+    let w = c .before .before in
+    let e = w .before .before in
+    let t = e .before .before in
+    let b = t .before in
+    let i = b .before in
+    let z = i .before in
+    let k = z .before in
+    let s = k .before .before .before .before .before in
+    rw (open-new mostDevices (s .args .area .now) (s .args .save .now) (right k)
+    (omega (arith, i .if2 .left, z .area-size .ensures)) (sym (b .bodies-sound .ensures) ∙ not-false _ (t .if3 .left))
+    (λ q. omega (arith, q, e .if4 .left)))
     (refl, w .read-bodies .ensures)
 
 pub open-spec : {M : Type 1} → statement M
@@ -91,6 +121,10 @@ open-spec =
     returns-2
     bodies-sound-requires
     returns-3
+    edition-read
+    open-old-requires
+    (λ c. search needs)
+    returns-4
     read-bodies-requires
     (λ c. search needs)
-    returns-4)
+    returns-5)

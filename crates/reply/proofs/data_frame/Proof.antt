@@ -11,21 +11,32 @@ use Rattle.record.specs.Record.{deviceOf}
 use Rattle.reply.proofs.data_frame.Statement.{statement}
 use Rattle.reply.proofs.data_frame.Tie as tie
 
+-- the last byte, asked for as END
 returns : tie.Need-returns
 unfolding dataFrame deviceOf messages firstIn firstOf
 returns c =
-    let b = c .before .before .before .before in
+    let b = c .before .before .before .before .before .before in
     let d = deviceOf (b .before .before .args .rec .now) in
     rw (← b .load-at .ensures)
     (search (arms, c .marked .ensures d (message end (b .load-at .result) 0) (omega arith) refl))
 
+-- the last byte, plain
 returns-2 : tie.Need-returns-2
 unfolding dataFrame deviceOf messages firstIn firstOf
 returns-2 c =
-    let b = c .before .before .before .before in
+    let b = c .before .before .before .before .before .before in
     let d = deviceOf (b .before .before .args .rec .now) in
     rw (← b .load-at .ensures)
     (search (arms, c .marked2 .ensures d (message dab (b .load-at .result) 0) (omega arith) refl))
+
+-- any other
+returns-3 : tie.Need-returns-3
+unfolding dataFrame deviceOf messages firstIn firstOf
+returns-3 c =
+    let b = c .before .before .before .before in
+    let d = deviceOf (b .before .before .args .rec .now) in
+    rw (← b .load-at .ensures)
+    (search (arms, c .marked3 .ensures d (message dab (b .load-at .result) 0) (omega arith) refl))
 
 pub data-frame-spec : {M : Type 1} → statement M
 data-frame-spec =
@@ -36,7 +47,10 @@ data-frame-spec =
     (λ c. search needs)
     (λ c. search needs)
     (λ c. search needs)
+    (λ c. search needs)
     (λ c κs. search needs)
     returns
     (λ c κs. search needs)
-    returns-2)
+    returns-2
+    (λ c κs. search needs)
+    returns-3)
