@@ -56,8 +56,7 @@ int main(void)
     accepted(pil_set_up(loop, sizeof loop, items, sizeof items), "set-up");
     refused(pil_take(lent, sizeof lent).refusal, PIL_SHAPE, "took with the size of a pointer for the area's length");
     items[PIL_ITEM_AT(METER) + PIL_ITEM_ABILITIES] |= PIL_ABILITY_SERVICE;
-    refused(pil_set_up(loop, sizeof loop, items, sizeof items), PIL_UNSOUND,
-            "set up a device with service request and without status");
+    refused(pil_set_up(loop, sizeof loop, items, sizeof items), PIL_UNSOUND, "set up service request without status");
     refused(pil_hop(loop, sizeof loop, DEVICES).refusal, PIL_NO_DEVICE,
             "counted devices from 1, and hopped device 2 of devices 0 and 1");
     refused(pil_encode(PIL_KIND_LAD, loop[PIL_RECORD_AT(PRINTER) + PIL_RECORD_ADDRESS], 0).refusal, PIL_BAD_FRAME,
@@ -69,8 +68,7 @@ int main(void)
     refused(pil_load_end(loop, sizeof loop, PRINTER, buffer, READING), PIL_NO_ABILITY,
             "loaded the printer, which sends no data");
     refused(pil_load_end(loop, sizeof loop, METER, buffer, sizeof buffer), PIL_TOO_LONG, "loaded a buffer of 33 bytes");
-    refused(pil_load(loop, sizeof loop, METER, buffer, READING, PIL_C2), PIL_UNSOUND,
-            "asked for END by its bit in a frame, PIL_C2, in place of PIL_LAST_END");
+    refused(pil_load(loop, sizeof loop, METER, buffer, READING, PIL_C2), PIL_UNSOUND, "chose PIL_C2, not PIL_LAST_END");
     accepted(pil_load(loop, sizeof loop, METER, buffer, READING, PIL_LAST_END), "load");
     accepted(pil_drain(loop, sizeof loop, pil_owed(loop, sizeof loop).hops).refusal, "drain"); /* SDA: a talk begins */
     refused(pil_load_end(loop, sizeof loop, METER, buffer, READING), PIL_BUSY, "loaded the meter during its talk");

@@ -1144,6 +1144,11 @@ static void history(void)
 
 /* All heads of saves, all editions, and all codes. */
 
+/* The saves of which all heads and editions are tried, by their devices. */
+static const unsigned tried_whole[] = {1, 2, PIL_MOST_DEVICES};
+
+enum { TRIED_WHOLE = sizeof tried_whole / sizeof *tried_whole };
+
 /* The save of a sound area of so many devices, which the area of both sides becomes. */
 static struct save some_sound_save(unsigned devices)
 {
@@ -1195,10 +1200,12 @@ static void compare_editions(unsigned devices)
     }
 }
 
-static void compare_saves(unsigned devices)
+static void compare_saves(void)
 {
-    compare_heads(devices);
-    compare_editions(devices);
+    for (unsigned i = 0; i < TRIED_WHOLE; i++) {
+        compare_heads(tried_whole[i]);
+        compare_editions(tried_whole[i]);
+    }
 }
 
 /* A kind and an offset with C1 right, wrong, and right when its high bits are cut off. */
@@ -1286,6 +1293,20 @@ static int report_loads(void)
     return enough;
 }
 
+/* Header, records and links have a head each. */
+static int report_tried_whole(void)
+{
+    uint64_t bits = 0, wrong = (uint64_t)TRIED_WHOLE * (UINT8_MAX - PIL_EDITION_NOW);
+    int all;
+
+    for (unsigned i = 0; i < TRIED_WHOLE; i++)
+        bits += 8 * PIL_SAVE_HEAD_LENGTH * (1 + tried_whole[i] + tried_whole[i] + 1);
+    all = head_bits == bits && editions == wrong;
+    printf("bits of heads turned over in turn, each refused with 10: %" PRIu64 "; editions that there are not, each "
+           "refused with 10: %" PRIu64 "%s\n", head_bits, editions, all ? "" : "  NOT ALL");
+    return all;
+}
+
 static int report_saves(void)
 {
     int enough = report_counts("savings accepted (0), refused for the area's shape (1), the output's length (2), also "
@@ -1300,8 +1321,7 @@ static int report_saves(void)
     enough &= report_counts("no saves: cut (0), longer (1), another byte in a head (2), out of order (3), another "
                             "count (4), of no or too many devices (5), of no edition (6)", spoilings, 0, SPOILINGS,
                             LEAST);
-    printf("bits of heads turned over in turn, each refused with 10: %" PRIu64 "; editions that there are not, each "
-           "refused with 10: %" PRIu64 "\n", head_bits, editions);
+    enough &= report_tried_whole();
     return enough;
 }
 
@@ -1348,9 +1368,7 @@ int main(int argc, char **argv)
     chance_seed(seed);
     while (made < wanted)
         history();
-    compare_saves(1);
-    compare_saves(2);
-    compare_saves(PIL_MOST_DEVICES);
+    compare_saves();
     compare_small_codes();
     compare_wide_codes();
     enough = report();

@@ -861,7 +861,7 @@ static int head_right(const uint8_t *head, unsigned kind, unsigned length)
 }
 
 /* Reads the next body, which must be there, of this kind and of this length. */
-static int read_body(struct reading *r, unsigned kind, unsigned length)
+static inline int read_body(struct reading *r, unsigned kind, unsigned length)
 {
     size_t whole = PIL_SAVE_HEAD_LENGTH + length;
 

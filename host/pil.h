@@ -31,8 +31,8 @@ enum {
                            as where it was not set up or opened yet; at set-up items, at saving an output of another
                            length; at opening an area of another length than the saved loop's */
     PIL_UNSOUND = 2,    /* the area's contents break a rule of "What is sound" below; at set-up an item does, at opening
-                           the saved contents do; a load's choice is not 0 or 1; a record has a choice in a save made
-                           before version 3 */
+                           the saved contents do; a load's choice is not 0 or 1; in a save made before version 3 byte
+                           19 of a record (PIL_RECORD_END) is not zero */
     PIL_NO_DEVICE = 3,  /* the device number is the number of devices or more */
     PIL_BAD_FRAME = 4,  /* a frame over 2,047; a kind or offset outside the message table, a C1 that is not 0 or 1, or a
                            C1 of 1 on a kind without one */
@@ -214,7 +214,8 @@ enum {
 /* The edition of a save, which tells how it was written. */
 enum {
     PIL_SAVE_EDITION = PIL_SAVE_HEAD_LENGTH + 1, /* its place in a save: the header's byte 1 */
-    PIL_EDITION_OLD = 0, /* before version 3: no record has a choice, and all data ended in an END */
+    PIL_EDITION_OLD = 0, /* before version 3: byte 19 (PIL_RECORD_END) is zero in each record, and all data ended in an
+                            END */
     PIL_EDITION_NOW = 1  /* since then */
 };
 
@@ -354,8 +355,8 @@ struct pil_drained pil_drain(uint8_t *area, size_t area_len, uint64_t budget);
 struct pil_owing pil_owed(const uint8_t *area, size_t area_len);
 /* Writes the loop into the output as its save, over whatever that held, and leaves the area as it was. The output's
    length is PIL_SAVE_LENGTH(n) for n devices, no more and no less; any other gives 1, where the area is unsound too. A
-   sound area has one save, of the edition now, and no other has the same. Refused, it leaves the output as it was.
-   Gives 1, 2. */
+   sound area has one save, of the edition now, and no other has the same. A libpil before version 3 refuses to open a
+   save of this edition, with 2. Refused, pil_save leaves the output as it was. Gives 1, 2. */
 uint8_t pil_save(const uint8_t *area, size_t area_len, uint8_t *save, size_t save_len);
 /* Writes the saved loop into the area, whatever that held: every byte of it is then that of the area saved, and the
    frames in its links go on from where they were. The area's length is PIL_AREA_LENGTH(n) for the saved number of

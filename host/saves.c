@@ -295,7 +295,7 @@ static void old_file(const char *path)
 int main(int argc, char **argv)
 {
     static const unsigned all[] = {1, 2, 7, PIL_MOST_DEVICES};
-    unsigned long bytes = 0, heads = 0, choices = 0, loops = sizeof all / sizeof *all;
+    unsigned long bytes = 0, heads = 0, choices = 0, chosen = OLD_WITH_DATA, loops = sizeof all / sizeof *all;
 
     if (argc != 3) {
         fprintf(stderr, "use: saves FILE OLD\n");
@@ -310,11 +310,12 @@ int main(int argc, char **argv)
         bytes += 30 + 86 * devices;
         heads += 2 * devices + 2;
         choices += devices;
+        chosen += devices > 1 ? 2 : 1; /* the first device and the last have data */
     }
     old_file(argv[2]);
     must(done.bytes == bytes && done.cuts == bytes && done.longer == loops && done.counts == loops * OTHER_VALUES
          && done.heads == heads * PIL_SAVE_HEAD_LENGTH * OTHER_VALUES && done.editions == loops * NO_EDITIONS
-         && done.choices == choices, "not all was tried", 0);
+         && done.choices == choices && done.chosen == chosen, "not all was tried", 0);
     printf("saves: %lu loops with %lu frames through a file of %lu bytes in all; refused with 10: %lu cut, %lu longer, "
            "%lu with another byte in a head, %lu with another count, %lu of no edition; %lu old saves opened and one "
            "from a file, END chosen for %lu devices in all; refused with 2: %lu old saves with a choice\n", loops,

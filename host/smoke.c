@@ -291,7 +291,7 @@ static void old_save_cases(void)
     memcpy(save, expected_save, sizeof save);
     save[PIL_SAVE_EDITION] = 0;
     save[14 + 6 + 19] = 0;
-    fresh();
+    memset(area, 0xa5, sizeof area);
     check("open, an old save", pil_open(area, sizeof area, save, sizeof save), PIL_ACCEPTED);
     check("open, an old save's area", memcmp(area, saved, sizeof area), 0);
     fresh();
@@ -299,6 +299,7 @@ static void old_save_cases(void)
     check("save", pil_save(area, sizeof area, save, sizeof save), PIL_ACCEPTED);
     check("save, edition", save[PIL_SAVE_EDITION], PIL_EDITION_NOW);
     save[PIL_SAVE_EDITION] = 0;
+    memset(area, 0xa5, sizeof area);
     check("open, an old save without data", pil_open(area, sizeof area, save, sizeof save), PIL_ACCEPTED);
     check("open, an old save without data, its area", memcmp(area, saved, sizeof area), 0);
 }

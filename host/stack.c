@@ -11,17 +11,24 @@ enum {
     PIL, MODEL,
     DEEP = 4096, /* bytes of the painted stack */
     PAINT = 0xa5,
+    ROW = 32,    /* bytes of paint looked for at a time */
     COPY = 16,   /* so many bytes of an ID or data in a row are a copy */
     ADDRESS = 5,
-    HOPPER = LOOP_DEVICES - 1, /* the device that hops */
-    RECORDS = LOOP_TALKER_STATES * 3 * 2 * 2 * 2 * 3 /* numbers for make_record */
+    HOPPER = LOOP_DEVICES - 1 /* the device that hops */
 };
+
+/* What a device has left to send: none, half, or the last byte of its data, which goes out plain or as an END. */
+enum { NONE_LEFT, HALF_LEFT, LAST_LEFT_PLAIN, LAST_LEFT_END, LEFTS };
+
+enum { RECORDS = LOOP_TALKER_STATES * 3 * 2 * LEFTS * 2 * 3 }; /* numbers for make_record */
 
 typedef void function(void);
 
 static _Alignas(16) uint8_t stack[DEEP];
+static uint8_t paint[ROW]; /* as the stack is where nothing touched it */
 static uint8_t ready[LOOP_LENGTH], area[LOOP_LENGTH];
 static uint8_t save[LOOP_SAVE_LENGTH], old_save[LOOP_SAVE_LENGTH]; /* of what is ready, as it is written now and was */
+static uint8_t upgraded[LOOP_LENGTH];    /* what the old save opens to */
 static uint8_t output[LOOP_SAVE_LENGTH]; /* what is saved */
 
 /* What is measured. A refused hop shows what the test of soundness leaves, which a hop may write over. */
@@ -72,7 +79,6 @@ __attribute__((noinline)) static void call_on_stack(function *of, uint64_t numbe
 /* Bytes from the deepest one touched to the stack's end. */
 static unsigned touched(void)
 {
-    static const uint8_t paint[8] = {PAINT, PAINT, PAINT, PAINT, PAINT, PAINT, PAINT, PAINT};
     unsigned place = 0;
 
     while (place < DEEP && memcmp(stack + place, paint, sizeof paint) == 0)
@@ -120,16 +126,23 @@ static void lend(unsigned which)
         memset(area, 0, sizeof area);
     if (which == SAVE)
         memset(output, 0, sizeof output);
-    memset(stack, PAINT, sizeof stack);
 }
 
 static int done(unsigned which)
 {
     return area[PIL_LINK_AT(LOOP_DEVICES, HOPPER) + PIL_LINK_COUNT] == calls[which].left
         && (which != SAVE || memcmp(output, save, sizeof save) == 0)
-        && (which < OPEN || memcmp(area, ready, sizeof area) == 0);
+        && (which != OPEN || memcmp(area, ready, sizeof area) == 0)
+        && (which != OPEN_OLD || memcmp(area, upgraded, sizeof area) == 0);
 }
 
+static void paint_all(void)
+{
+    memset(stack, PAINT, sizeof stack);
+    memset(paint, PAINT, sizeof paint);
+}
+
+/* Paints what the call touched again, for the next one. */
 static void measure(unsigned which, int side, unsigned frame)
 {
     unsigned depth;
@@ -141,6 +154,7 @@ static void measure(unsigned which, int side, unsigned frame)
     must(done(which), "not done as it must be", which, frame);
     note(&deepest[which][side], depth, frame);
     note(&copied[which][side], longest_copy(depth), frame);
+    memset(stack + DEEP - depth, PAINT, depth);
 }
 
 /* The cases. */
@@ -160,8 +174,21 @@ static void all_sent(uint8_t *r)
         r[PIL_RECORD_REPLY_SENT] = PIL_MOST_ID;
 }
 
-/* A full record in each of the states that a frame can meet, by number; gives 0 if a lower number has made the same.
-   Configured devices have bytes left to send, the others none. */
+/* A device with none left is not configured. Gives 0 where the last byte of the data cannot be the next to go out. */
+static int leave(uint8_t *r, unsigned left)
+{
+    r[PIL_RECORD_CONFIGURED] = left != NONE_LEFT;
+    if (left == NONE_LEFT)
+        all_sent(r);
+    if (left < LAST_LEFT_PLAIN)
+        return 1;
+    r[PIL_RECORD_SENT] = PIL_MOST_DATA - 1;
+    r[PIL_RECORD_END] = left == LAST_LEFT_END ? PIL_LAST_END : PIL_LAST_PLAIN;
+    return r[PIL_RECORD_TALKER] == PIL_TALKER_ADDRESSED || r[PIL_RECORD_TALKER] == PIL_TALKER_DATA;
+}
+
+/* A full record in each state that makes a difference to the frame, by number; gives 0 if a lower number has made one
+   that the frame finds the same. Only a data byte finds NRD and the byte sent last, and only in a sending device. */
 static int make_record(uint8_t *r, unsigned number, unsigned frame)
 {
     static const unsigned others[] = {0, 1, PIL_C2};
@@ -170,10 +197,9 @@ static int make_record(uint8_t *r, unsigned number, unsigned frame)
     full_record(r, ADDRESS, digit(&number, LOOP_TALKER_STATES));
     r[PIL_RECORD_SERVICE] = (uint8_t)digit(&number, PIL_SERVICE_POLLED + 1);
     r[PIL_RECORD_LISTENER] = (uint8_t)digit(&number, 2);
-    r[PIL_RECORD_CONFIGURED] = (uint8_t)digit(&number, 2);
-    if (!r[PIL_RECORD_CONFIGURED])
-        all_sent(r);
-    if (r[PIL_RECORD_TALKER] < PIL_TALKER_DATA)
+    if (!leave(r, digit(&number, LEFTS)))
+        return 0;
+    if (r[PIL_RECORD_TALKER] < PIL_TALKER_DATA || frame >= PIL_C3)
         return number == 0;
     r[PIL_RECORD_NRD] = (uint8_t)digit(&number, 2);
     last = (frame ^ others[digit(&number, 3)]) & (PIL_C2 | PIL_C1 | PIL_DATA_BITS);
@@ -182,13 +208,17 @@ static int make_record(uint8_t *r, unsigned number, unsigned frame)
     return 1;
 }
 
+/* Every device has data, for which an opening of the old save chooses END. */
 static void make_saves(void)
 {
     model_save(ready, sizeof ready, save, sizeof save);
     memcpy(old_save, save, sizeof save);
+    memcpy(upgraded, ready, sizeof ready);
     old_save[PIL_SAVE_EDITION] = PIL_EDITION_OLD;
-    for (unsigned i = 0; i < LOOP_DEVICES; i++)
+    for (unsigned i = 0; i < LOOP_DEVICES; i++) {
         old_save[PIL_SAVE_RECORD_AT(i) + PIL_SAVE_HEAD_LENGTH + PIL_RECORD_END] = 0;
+        upgraded[PIL_RECORD_AT(i) + PIL_RECORD_END] = PIL_LAST_END;
+    }
 }
 
 static void try_case(unsigned number, unsigned frame)
@@ -250,6 +280,7 @@ int main(int argc, char **argv)
         return 3;
     }
     idle_loop(ready);
+    paint_all();
     for (unsigned number = 0; number < RECORDS; number++)
         for (unsigned frame = 0; frame < PIL_FRAMES; frame++)
             try_case(number, frame);

@@ -18,7 +18,7 @@ ghost use Rattle.record.specs.Record.{recordSize};
 ghost use Rattle.area.specs.Sizes.{headerSize, areaSize};
 ghost use Rattle.area.specs.Parts.{parts, join, all};
 ghost use Rattle.area.specs.Loop.{sound};
-ghost use Rattle.saved.specs.Saved.{headSize, unmarked, savedDeviceSize, savedLinkSize, body, contents};
+ghost use Rattle.saved.specs.Saved.{headSize, withoutEdition, savedDeviceSize, savedLinkSize, body, contents};
 ghost use Rattle.saved.specs.Inner.{soundDeviceIn, soundLinkIn, SaveOf};
 
 // Whether the bodies of so many devices' records are sound. Each is judged as a row of one, by the pass over areas, so
@@ -56,7 +56,7 @@ fn link_bodies_sound(records: &[u8], n: usize) -> bool
     true
 }
 
-// Whether the area that a save of n devices holds is sound. Its header's byte 1 is told by the save's form.
+// Whether the area that a save of n devices holds is sound. Byte 1 of its header is the edition, which the form judges.
 pub fn bodies_sound(save: &[u8], n: usize) -> bool
     requires { ⌜ SaveOf n (now save) ⌝ }
     ensures { λ r. ⌜ r ≡ sound (contents (now (save .entry))) ⌝ }
@@ -89,7 +89,7 @@ fn read_run(records: &[u8], to: &mut [u8], size: usize, count: usize)
 // A header's body, with the area's own byte 1.
 fn read_header(body: &[u8], to: &mut [u8])
     requires { ⌜ (length (now body) ≡ headerSize) × (length (now to) ≡ headerSize) ⌝ }
-    ensures { λ _. ⌜ now (to .exit) ≡ unmarked (now (body .entry)) ⌝ }
+    ensures { λ _. ⌜ now (to .exit) ≡ withoutEdition (now (body .entry)) ⌝ }
 {
     fill(body, to);
     to[1] = 0;

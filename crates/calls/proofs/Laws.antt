@@ -7,7 +7,8 @@ use Rattle.area.proofs.Areas.{holds-of}
 use Rattle.calls.specs.Outcome.{refuse, loopAfter}
 use Rattle.calls.specs.Calls.{localIn, loadIn}
 use Rattle.calls.specs.Laws.{Unique, CallOnLoop, Kept, AreaAfter, LoadKeeps, StatusKeeps, WishKeeps}
-use Rattle.record_local.specs.Local.{badChoice, loads, setsStatus, wishes}
+use Rattle.record_local.specs.Local.{loads, setsStatus, wishes}
+use Rattle.area.specs.Loop.{unsound}
 use Rattle.calls.proofs.Outcomes.{call-done}
 use Rattle.calls.proofs.Kept.{local-keeps}
 use Rattle.calls.proofs.Turns.{after-area}
@@ -27,7 +28,7 @@ pub load-keeps : LoadKeeps
 unfolding loadIn
 load-keeps i bs e small l s = go (isChoice e)
   where
-    go : (t : Bool) → Kept l (loopAfter l (cond t (localIn (λ d. loads d bs e) i l) (refuse badChoice)))
+    go : (t : Bool) → Kept l (loopAfter l (cond t (localIn (λ d. loads d bs e) i l) (refuse unsound)))
     go true = local-keeps (λ d. loads d bs e) (λ d g. load-good d bs e small g) i l s
     go false = record { sound = s; same = refl }
 

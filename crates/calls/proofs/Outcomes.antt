@@ -11,7 +11,7 @@ use Rattle.frame.specs.Messages.{frames}
 use Rattle.frame.specs.Coding.{badFrame}
 use Rattle.device.specs.Device.{isChoice}
 use Rattle.device.specs.declared.Device.{Device}
-use Rattle.record_local.specs.Local.{Called, badChoice, loads}
+use Rattle.record_local.specs.Local.{Called, loads}
 use Rattle.area.specs.Loop.{Loop, size, loopOf, shape, unsound, shaped, sound, judgeOf, judgeWith, device, link}
 use Rattle.area.specs.Lookup.{oldestOf, roomOf, placeOf, setLink, add, remove}
 use Rattle.area.specs.declared.Oldest.{Oldest}
@@ -58,7 +58,7 @@ module _ (a : List ℕ) (i : ℕ) (bs : List ℕ) (e : ℕ) where
   load-unchosen h = rw h (go (shaped a) (sound a))
     where
       go : (s t : Bool) →
-          cond (eqb (cond s (cond t 0 unsound) shape) 0) (after badChoice a)
+          cond (eqb (cond s (cond t 0 unsound) shape) 0) (after unsound a)
           (after (cond s (cond t 0 unsound) shape) a) ≡ after (cond s unsound shape) a
       go true true = refl
       go true false = refl

@@ -8,13 +8,13 @@ use Rattle.frame.specs.Messages.{frames}
 use Rattle.frame.specs.Coding.{badFrame}
 use Rattle.device.specs.Device.{isChoice}
 use Rattle.device.specs.Take.{takes}
-use Rattle.record_local.specs.Local.{badChoice, loads, setsStatus, wishes}
+use Rattle.record_local.specs.Local.{loads, setsStatus, wishes}
 use Rattle.device.specs.declared.Device.{Device}
 use Rattle.device.specs.declared.Handed.{Handed}
 use Rattle.device.specs.declared.Handed.the-variants as handed
 use Rattle.device.specs.Sent.{Sent}
 use Rattle.record_local.specs.Local.{Called}
-use Rattle.area.specs.Loop.{Loop, size, device, link}
+use Rattle.area.specs.Loop.{Loop, size, unsound, device, link}
 use Rattle.area.specs.Lookup.{oldestOf, roomOf, placeOf, setDevice, add, remove}
 use Rattle.area.specs.declared.Oldest.{Oldest}
 use Rattle.area.specs.declared.Room.{Room}
@@ -117,7 +117,7 @@ localIn call i l = atPlace (calledAt call l) (placeOf l i)
 
 -- load refuses a choice other than 0 or 1 before the device is looked for (02, h)
 unfoldable pub loadIn : ℕ → List ℕ → ℕ → Loop → Outcome ℕ
-loadIn i bs e l = cond (isChoice e) (localIn (λ d. loads d bs e) i l) (refuse badChoice)
+loadIn i bs e l = cond (isChoice e) (localIn (λ d. loads d bs e) i l) (refuse unsound)
 
 -- ---- the calls on areas
 

@@ -24,8 +24,8 @@ use Rattle.calls.specs.Drain.{noDrain, drainIn}
 use Rattle.calls.specs.Owed.{noOwed, owedIn}
 use Rattle.calls.specs.declared.OwedAnswer.{OwedAnswer}
 use Rattle.calls.specs.SetUp.{devicesFor, itemsFit, poweredOn, setUpOf, setUpWith}
-use Rattle.saved.specs.Saved.{body, saved, savedSize, savedCount, savedDevices, formed, contents}
-use Rattle.saved.specs.Older.{old, choiceless, opened, soundSave}
+use Rattle.saved.specs.Saved.{saved, savedSize, savedCount, savedDevices, formed, contents}
+use Rattle.saved.specs.Older.{old, zeroChoiceIn, opened, soundSave}
 use Rattle.saved.specs.Calls.{saveOf, saveWith, openWith}
 use Rattle.demands.specs.Calls.{Byte, numbers, Action, put, hop, take, load, status, wish, drain, owes, save}
 use Rattle.demands.specs.Calls.{Call, onArea, setUp, opens, decode, encode, Answer, plain, hopped, taken}
@@ -223,7 +223,7 @@ module _ (a : List ℕ) (bytes : List Byte) where
 -- an old save with a choice beside contents that are not sound
 unsound-save : (s : List ℕ) → not (soundSave s) ≡ (not (sound (contents s)) || oldWithChoice s)
 unfolding soundSave
-unsound-save s = go (sound (contents s)) (old s) (all (λ r. choiceless (body r)) (savedDevices s))
+unsound-save s = go (sound (contents s)) (old s) (all zeroChoiceIn (savedDevices s))
   where
     go : (x y z : Bool) → not (x && only y z) ≡ (not x || (y && not z))
     go true true true = refl

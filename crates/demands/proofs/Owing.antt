@@ -4,18 +4,19 @@ use Prim.Native.Nat.{ℕ, _+_, _*_}
 use mathlib.Core.Path.{_≡_, refl, sym, ap, _∙_}
 use mathlib.Core.Bool.{Bool, true, false, not, cond, _||_, true≢false}
 use mathlib.Core.Option.{Option, none, some, Option·map}
-use mathlib.Core.List.{List, [], _∷_, append-nil}
+use mathlib.Core.List.{List, [], _∷_, map, append-nil}
 use native.Mathlib.Omega.{arith}
 use lib.ListN.{length}
 use lib.Dec.{eqb}
 use borrow.Author.Tests.{eqb-true, eqb-false}
 use Rattle.record.specs.Fits.{Bytes}
 use Rattle.area.specs.Sizes.{areaSize}
+use Rattle.area.specs.Link.{framesOf}
 use Rattle.area.specs.Loop.{Loop, countIn, loopOf, areaOf, shaped, sound, judgeOf, judgeWith, link, Sound-loop}
 use Rattle.area.proofs.Laws.{loop-sound}
 use Rattle.calls.proofs.Owing.{loop-owes}
 use Rattle.saved.specs.Calls.{openOf}
-use Rattle.saved.proofs.Laws.{saved-new, one-form, saved-once}
+use Rattle.saved.proofs.Laws.{opened-links}
 use Rattle.order.specs.Line as line
 use Rattle.order.specs.Flat as flat
 use Rattle.order.specs.History as told
@@ -201,10 +202,11 @@ owed-after-set-up items a set =
     ∙ owed-is (line.idle (ds a items set)) (fresh-good a items set)
     ∙ idle-owed papers (ds a items set)
 
--- ---- and an opening what was saved
+-- ---- and an opening what the save holds: they are read off the links
 
 pub owed-after-opening : OwedAfterOpening
-owed-after-opening s a b j e h =
+unfolding loopOf
+owed-after-opening s a h =
     let z : openOf a (numbers s) .answer ≡ 0 = demand-1 .by-table (opens s) a ∙ h in
-    let f = one-form (openOf a (numbers s) .area) a (numbers s) (whole z refl) (rw e (saved-new b (j .sound))) in
-    ap hopsOwed (saved-once (openOf a (numbers s) .area) b (f .0) (j .sound) (sym (f .1) ∙ e))
+    ap (λ (ls : List (List ℕ)). owed (map framesOf ls))
+    (opened-links (openOf a (numbers s) .area) a (numbers s) (whole z refl))

@@ -16,7 +16,7 @@ use Rattle.frame.specs.declared.Encoded.the-variants as encoder
 use Rattle.frame.specs.Coding.{decodeOf, inList, encodeOf}
 use Rattle.frame.proofs.Laws.{decode-encode, encode-decode, kind-zero}
 use Rattle.device.specs.Take.{takes}
-use Rattle.device.proofs.Sentences.{end-only-asked}
+use Rattle.device.proofs.Sentences.{end-where-asked, end-only-asked}
 use Rattle.device.specs.declared.Device.{Device}
 use Rattle.area.specs.Sizes.{depth, linkSize, linkAt}
 use Rattle.area.specs.Link.{linkOf}
@@ -200,4 +200,5 @@ saved-loops =
     }
 
 pub end-by-choice : EndByChoice
-end-by-choice = record { only-asked = end-only-asked; old-opens = saved-laws.old-opens }
+end-by-choice =
+    record { where-asked = end-where-asked; only-asked = end-only-asked; old-opens = saved-laws.old-opens }

@@ -1,5 +1,5 @@
 -- The conditions of 01's refusal table, each a test of a call and an area, written from the table row by row, with what
--- 02 adds: g to the fourth, a and h to the first two and a tenth.
+-- 02 adds: g to the fourth, a to the first two and a tenth, h to the second and the tenth.
 use Prim.Native.Nat.{ℕ, zero, suc, _*_}
 use mathlib.Core.List.{List, [], _∷_}
 use mathlib.Core.Bool.{Bool, false, not, cond, _&&_, _||_}
@@ -60,7 +60,7 @@ noChoice (drain b) = false
 noChoice owes = false
 noChoice (save out) = false
 
--- a device of an old save, one with 0 in kind 1's byte 1, has a choice
+-- the save is old, with 0 in kind 1's byte 1, and in a record byte 19 is not zero
 abbrev pub oldWithChoice : List ℕ → Bool
 oldWithChoice s = eqb (edition s) 0 && not (all (λ r. eqb (getD (body r) choice 0) 0) (savedDevices s))
 
@@ -176,7 +176,8 @@ Busy (drain b) a = false
 Busy owes a = false
 Busy (save out) a = false
 
--- 10, BadSave: what is to be opened isn't in the form of a save of 1 to mostDevices devices
+-- 10, BadSave: what is to be opened isn't in the form of a save of 1 to mostDevices devices, with 0 or 1 in kind 1's
+-- byte 1
 abbrev pub BadSave : Call → Bool
 BadSave (onArea c) = false
 BadSave (setUp items) = false

@@ -14,7 +14,7 @@ use Rattle.frame.specs.Decoding.{message, decoded as decoding, frameOf}
 use Rattle.frame.specs.Laws.{TableInOrder, DecodeEncode, EncodeDecode, KindZero}
 use Rattle.device.specs.Take.{takes}
 use Rattle.device.specs.Sent.{Sent}
-use Rattle.device.specs.Sentences.{EndOnlyAsked}
+use Rattle.device.specs.Sentences.{EndWhereAsked, EndOnlyAsked}
 use Rattle.record.specs.Record.{recordOf}
 use Rattle.record.specs.Parts.{splice}
 use Rattle.record.specs.Fits.{Bytes}
@@ -25,7 +25,7 @@ use Rattle.area.specs.Lookup.{blankOf}
 use Rattle.calls.specs.Outcome.{After, after}
 use Rattle.calls.specs.Calls.{hopAnswer}
 use Rattle.calls.specs.SetUp.{poweredOn}
-use Rattle.saved.specs.Saved.{saved}
+use Rattle.saved.specs.Saved.{saved, contents}
 use Rattle.saved.specs.Older.{opened}
 use Rattle.saved.specs.Laws.{SavedLong, OpenAfterSave, OpenOver, OneForm, OldForm, SaveOpened, SavedOnce, OldOpens}
 use Rattle.limits.specs.Limits.{FewIn, FewItems, FewSaved, Agree, RefusesMore}
@@ -240,10 +240,10 @@ abbrev pub OwedAfterSetUp : Type 0
 OwedAfterSetUp = (items : List Byte) (a : List ℕ) → due (setUp items) a ≡ 0 →
     hopsOwed (pil (setUp items) a .area) ≡ 0
 
--- and an accepted opening leaves those of the area that was saved.
+-- and an accepted opening leaves those of the area that the save holds, be it old or new.
 abbrev pub OwedAfterOpening : Type 0
-OwedAfterOpening = (s : List Byte) (a b : List ℕ) → Judged b → numbers s ≡ saved b → due (opens s) a ≡ 0 →
-    hopsOwed (pil (opens s) a .area) ≡ hopsOwed b
+OwedAfterOpening = (s : List Byte) (a : List ℕ) → due (opens s) a ≡ 0 →
+    hopsOwed (pil (opens s) a .area) ≡ hopsOwed (contents (numbers s))
 
 -- They are answered after any history from an area that has no refusal, since it still has none.
 abbrev pub StaysJudged : Type 0
@@ -304,9 +304,9 @@ pub record ThirtyOne : Type 1 where
   -- An area of 31 devices, here of ones that can do nothing, has no refusal, and 2,312 bytes; none is longer.
   pub longest : (judgeOf (areaOf (blankOf mostDevices)) ≡ 0) × (length (areaOf (blankOf mostDevices)) ≡ 2312)
   pub none-longer : (a : List ℕ) → judgeOf a ≡ 0 → length a ≤ 2312
-  -- What has at most fifteen devices is judged, set up, saved and opened as by the limit before,
+  -- What has at most fifteen devices is judged, set up, saved and opened as by the limit of fifteen,
   pub as-before : Agree formerMost mostDevices
-  -- and so every call with at most fifteen answers and leaves what it did.
+  -- and so every call with at most fifteen answers and leaves what it does by that.
   pub called-as-before : (c : Call) (a : List ℕ) → FewFor formerMost c a → pilWith formerMost c a ≡ pil c a
   -- A reader by that limit refuses what has more with 10, and the area that it was lent stays as it was.
   pub refused-before : RefusesMore formerMost
@@ -314,7 +314,9 @@ pub record ThirtyOne : Type 1 where
 -- ---- END by choice (02, h). What a load stores, demand 2 says; the refusal of other numbers, demand 1.
 
 pub record EndByChoice : Type 0 where
-  -- A device whose choice is not END sends one only where it passes one on.
+  -- The last byte of data goes out as END where that was chosen,
+  pub where-asked : EndWhereAsked
+  -- and a device whose choice is not END sends one only where it passes one on.
   pub only-asked : EndOnlyAsked
   -- Saves written before loads took a choice still open, with END chosen by each device with data.
   pub old-opens : OldOpens

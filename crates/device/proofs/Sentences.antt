@@ -1,35 +1,38 @@
 -- The sentences of specs/Sentences.antt, in the paper's order: five are told of every rule (Told), the others follow
 -- from the rule of their frames.
-use Prim.Native.Nat.{ℕ, _-_, _≤_, _<_}
+use Prim.Native.Nat.{ℕ, _+_, _-_, _≤_, _<_}
 use mathlib.Core.Path.{_≡_, refl, sym, ap, _∙_}
 use mathlib.Core.Bool.{Bool, true, false, and-false}
 use mathlib.Core.Logic.{_⊎_, inl, inr, ⊎-elim}
 use native.Mathlib.Omega.{arith}
 use lib.Dec.{eqb}
+use lib.ListN.{getD}
 use borrow.Author.Tests.{ltb-true, lt-ltb, eq-eqb, ne-eqb}
 use Rattle.frame.specs.Messages.{kindAt, messages, firstIn, firstOf, codesIn, codesOf}
-use Rattle.frame.specs.Decoding.{idy, hasC1, offsetIn, decoded, frameOf}
+use Rattle.frame.specs.Decoding.{end, idy, hasC1, offsetIn, decoded, frameOf}
+use Rattle.frame.specs.declared.Kind.the-variants.{End}
 use Rattle.frame.specs.Classes.{IsData}
 use Rattle.frame.specs.Laws.{CodeOf}
 use Rattle.frame.specs.declared.Message.{Message}
 use Rattle.frame.proofs.Rows.{within-kind}
 use Rattle.frame.proofs.Laws.{free, has, data-kind, data-again, idy-kind}
 use Rattle.device.specs.Choose.{choose}
-use Rattle.device.specs.Device.{idle, addressed, sending}
+use Rattle.device.specs.Device.{idle, addressed, sendingData, endLast, sending}
 use Rattle.device.specs.Change.{talking}
 use Rattle.device.specs.Commands.{lad, tad}
-use Rattle.device.specs.Reply.{eto, ete, withC1, marked, stops, continues}
-use Rattle.device.specs.Ready.{aad}
+use Rattle.device.specs.Reply.{eto, ete, withC1, marked, stops, dataFrame, sendsData, continues}
+use Rattle.device.specs.Ready.{requested, aad}
 use Rattle.device.specs.Data.{agrees, returned, heard, dataOrEnd}
 use Rattle.device.specs.Take.{takes}
 use Rattle.device.specs.Sentences.{ShowsC1, Sending, CommandsGoOn, NoLadIs31, NoTadIs31, ConfiguredPassesAad}
 use Rattle.device.specs.Sentences.{OwnNotHanded, OwnNotPassed, OwnCompared, IdyGoesOn, ServiceShown, C1Kept}
-use Rattle.device.specs.Sentences.{EndOnlyAsked, LeavingZeroes}
+use Rattle.device.specs.Sentences.{Of, EndWhereAsked, EndOnlyAsked, LeavingZeroes}
 use Rattle.device.specs.declared.Device.{Device}
 use Rattle.device.specs.Sent.{Sent}
 use Rattle.device.proofs.Classes.{data-frame, idy-frame}
 use Rattle.device.proofs.Chosen.{chosen}
-use Rattle.device.proofs.Marked.{Shows, data-shows, idy-shows, set, made, marked-code, marked-bits, marked-same}
+use Rattle.device.proofs.Marked.{Shows, data-shows, idy-shows, reply, set, made, marked-kind, marked-code}
+use Rattle.device.proofs.Marked.{marked-bits, marked-same}
 use Rattle.device.proofs.Told.{told}
 
 pub commands-go-on : CommandsGoOn
@@ -146,6 +149,31 @@ idy-goes-on =
           λ d f i. rw (idy-frame d f (i .first) (i .past))
           (marked-bits d (decoded f) (idy-shows f (i .first) (i .past)));
       same-device = λ d f i. rw (idy-frame d f (i .first) (i .past));
+    }
+
+-- the last byte of the data, asked for as END
+last-out : (d : Device) → d .choice ≡ endLast → d .sent + 1 ≡ d .loadlength → getD (d .load) (d .sent) 0 < 256 →
+    d .talker ≡ sendingData → Of End (continues d .frame)
+unfolding continues sendsData dataFrame choose hasC1
+last-out d c l b t =
+    rw (
+      eq-eqb (d .talker) sendingData t,
+      lt-ltb (d .sent) (d .loadlength) (omega arith),
+      eq-eqb (d .sent + 1) (d .loadlength) l,
+      eq-eqb (d .choice) endLast c,
+    )
+    (marked-kind d _ (reply end _ refl b))
+
+pub end-where-asked : EndWhereAsked
+unfolding takes requested choose
+end-where-asked =
+    record {
+      at-sda = λ d f l t h e.
+          rw (e, eq-eqb (d .talker) addressed t, h)
+          (last-out (talking d sendingData) (l .chosen) (l .last) (l .byte) refl);
+      at-own-byte = λ d f l t n i k b.
+          rw (own-compared d f (omega arith) i .agreed k b, ne-eqb (d .noted) 1 n)
+          (last-out d (l .chosen) (l .last) (l .byte) t);
     }
 
 pub end-only-asked : EndOnlyAsked

@@ -3,16 +3,15 @@
 use Prim.Native.Nat.{ℕ, _+_, _≤_, _<_}
 use mathlib.Core.Path.{_≡_, refl, sym, ap, _∙_}
 use mathlib.Core.Logic.{inl, inr, ⊎-elim}
-use mathlib.Core.Bool.{Bool, true}
+use mathlib.Core.Bool.{Bool, true, _&&_, and-false}
 use native.Mathlib.Omega.{arith}
 use native.Mathlib.Decide.{decLt}
 use lib.Dec.{eqb, ltb}
-use lib.ListN.{getD}
-use borrow.Author.Tests.{eqb-true, ltb-false}
+use borrow.Author.Tests.{eqb-true, ne-eqb, ltb-false}
 use Rattle.frame.specs.declared.Kind.the-variants.{End, Aad}
 use Rattle.frame.specs.Messages.{kindAt, messages, firstIn, firstOf, codesIn, codesOf}
 use Rattle.frame.specs.Classes.{IsCommand}
-use Rattle.frame.specs.Decoding.{message, dab, end, hasC1, decoded}
+use Rattle.frame.specs.Decoding.{dab, end, hasC1, decoded}
 use Rattle.frame.specs.declared.Message.{Message}
 use Rattle.frame.proofs.Rows.{within-kind}
 use Rattle.frame.proofs.Laws.{idy-kind}
@@ -82,13 +81,10 @@ no-end : (f : ℕ) → 0x400 ≤ f → Of End f → ⊥
 no-end f l e = omega (arith, end-past f e)
 
 data-plain : (d : Device) → OfBytes d → (d .choice ≡ endLast → ⊥) → Of End (dataFrame d) → ⊥
-unfolding dataFrame hasC1
+unfolding dataFrame choose hasC1
 data-plain d b n =
     let k = marked-kind d _ (reply dab _ refl (b .load (d .sent))) in
-    let plain : Of End (marked d (message dab (getD (d .load) (d .sent) 0) 0)) → ⊥ = λ e. omega (arith, k, e) in
-    chosen (λ x. Of End x → ⊥) (eqb (d .sent + 1) (d .loadlength)) _ _
-    (λ l. chosen (λ x. Of End x → ⊥) (eqb (d .choice) endLast) _ _ (λ c. absurd (n (eqb-true _ _ c))) (λ c. plain))
-    (λ l. plain)
+    rw (ne-eqb (d .choice) endLast n, and-false (eqb (d .sent + 1) (d .loadlength))) (λ e. omega (arith, k, e))
 
 other-plain : (d : Device) → OfBytes d → Of End (otherFrame d) → ⊥
 unfolding hasC1
@@ -98,10 +94,8 @@ data-asks : (d : Device) → OfBytes d → d .service ≡ asking → ShowsC1 (da
 unfolding dataFrame hasC1
 data-asks d b a =
     let o = b .load (d .sent) in
-    chosen ShowsC1 (eqb (d .sent + 1) (d .loadlength)) _ _
-    (λ e. chosen ShowsC1 (eqb (d .choice) endLast) _ _ (λ c. marked-asks d _ (reply end _ refl o) a)
-    (λ c. marked-asks d _ (reply dab _ refl o) a))
-    (λ e. marked-asks d _ (reply dab _ refl o) a)
+    chosen ShowsC1 (eqb (d .sent + 1) (d .loadlength) && eqb (d .choice) endLast) _ _
+    (λ e. marked-asks d _ (reply end _ refl o) a) (λ e. marked-asks d _ (reply dab _ refl o) a)
 
 other-asks : (d : Device) → OfBytes d → d .service ≡ asking → ShowsC1 (otherFrame d)
 unfolding hasC1

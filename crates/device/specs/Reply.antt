@@ -1,5 +1,6 @@
 -- Frames sent, and the replies of a talker (01, What a device does with a frame, from "Reply bytes are DAB"; 02, h).
 use Prim.Native.Nat.{ℕ, _+_}
+use mathlib.Core.Bool.{_&&_}
 use lib.Dec.{eqb, ltb}
 use lib.ListN.{getD}
 use Rattle.frame.specs.Decoding.{message, dab, end, frameOf}
@@ -37,10 +38,8 @@ stops d e = sends (talking d addressed) e
 -- the next byte of the data, after those already sent: END if it is the last and the load asked for END (02, h)
 unfoldable pub dataFrame : Device → ℕ
 dataFrame d =
-    choose (eqb (d .sent + 1) (d .loadlength))
-    (choose (eqb (d .choice) endLast)
+    choose (eqb (d .sent + 1) (d .loadlength) && eqb (d .choice) endLast)
     (marked d (message end (getD (d .load) (d .sent) 0) 0))
-    (marked d (message dab (getD (d .load) (d .sent) 0) 0)))
     (marked d (message dab (getD (d .load) (d .sent) 0) 0))
 
 -- the next byte of another reply: the status, a byte of the ID, the accessory ID

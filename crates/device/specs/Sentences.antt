@@ -1,17 +1,18 @@
 -- Sentences of 01, "What a device does with a frame", in its order, and of 02, b and h: each holds for every frame and
 -- every device, sound or not, but for those that ask for bytes. Proved in proofs/Sentences.antt.
-use Prim.Native.Nat.{ℕ, _≤_, _<_}
+use Prim.Native.Nat.{ℕ, _+_, _≤_, _<_}
 use mathlib.Core.Path.{_≡_}
+use mathlib.Core.Bool.{true}
 use mathlib.Core.Logic.{_⊎_}
 use lib.Dec.{eqb}
 use lib.ListN.{getD}
 use Rattle.frame.specs.declared.Kind.{Kind}
-use Rattle.frame.specs.declared.Kind.the-variants.{End, Lad, Tad, Aad}
+use Rattle.frame.specs.declared.Kind.the-variants.{End, Lad, Tad, Sda, Aad}
 use Rattle.frame.specs.Messages.{numberOf}
 use Rattle.frame.specs.Classes.{IsData, IsCommand, IsIdentify}
 use Rattle.frame.specs.Decoding.{decoded, frameOf}
 use Rattle.device.specs.Choose.{choose}
-use Rattle.device.specs.Device.{idle, addressed, asking, endLast, noAddress}
+use Rattle.device.specs.Device.{sendData, idle, addressed, sendingData, asking, endLast, noAddress, has}
 use Rattle.device.specs.Change.{talking}
 use Rattle.device.specs.Reply.{eto, ete, sends, withC1, stops, continues}
 use Rattle.device.specs.Take.{takes}
@@ -87,7 +88,21 @@ pub record OfBytes (d : Device) : Type 0 where
   pub id : (i : ℕ) → getD (d .id) i 0 < 256
   pub load : (i : ℕ) → getD (d .load) i 0 < 256
 
--- END only when asked for (02, h): a device whose choice is not END sends one only where it passes one on.
+-- one byte of the data is left, and END is chosen for it (02, h)
+pub record EndLeft (d : Device) : Type 0 where
+  pub chosen : d .choice ≡ endLast
+  pub last : d .sent + 1 ≡ d .loadlength
+  pub byte : getD (d .load) (d .sent) 0 < 256
+
+-- END where it was asked for: it goes out as END, in answer to SDA, and to the byte before come back with no NRD noted;
+pub record EndWhereAsked : Type 0 where
+  pub at-sda : (d : Device) (f : ℕ) → EndLeft d → d .talker ≡ addressed → has d sendData ≡ true → Of Sda f →
+      Of End (takes d f .frame)
+  pub at-own-byte : (d : Device) (f : ℕ) → EndLeft d → d .talker ≡ sendingData → (d .noted ≡ 1 → ⊥) → IsData f →
+      decoded f .kind ≡ decoded (d .last) .kind → decoded f .offset ≡ decoded (d .last) .offset →
+      Of End (takes d f .frame)
+
+-- and only then: a device whose choice is not END sends one only where it passes one on.
 abbrev pub EndOnlyAsked : Type 0
 EndOnlyAsked =
     (d : Device) (f : ℕ) → OfBytes d → (d .choice ≡ endLast → ⊥) → Of End (takes d f .frame) →

@@ -1,9 +1,9 @@
-// Whether a save has the form: its count, its length, every record's length and kind, and how it was written.
+// Whether a save has the form: its count, its length, every record's length and kind, and its edition.
 use area::is_count;
 use saved::DEVICE;
 use saved::DEVICE_RECORD;
-use saved::EDITION;
 use saved::EDITION_AT;
+use saved::EDITION_NOW;
 use saved::HEAD_SIZE;
 use saved::HEADER;
 use saved::HEADER_RECORD;
@@ -74,5 +74,5 @@ pub fn form_right(save: &[u8]) -> bool
     if len != end {
         return false;
     }
-    heads_right(save, n) & (save[EDITION_AT] <= EDITION)
+    heads_right(save, n) & (save[EDITION_AT] <= EDITION_NOW)
 }

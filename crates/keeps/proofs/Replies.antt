@@ -2,7 +2,7 @@
 -- long.
 use Prim.Native.Nat.{ℕ, zero, suc, _+_, _≤_, _<_}
 use mathlib.Core.Path.{_≡_, refl}
-use mathlib.Core.Bool.{Bool, true, false, _||_}
+use mathlib.Core.Bool.{Bool, true, false, _&&_, _||_}
 use native.Mathlib.Omega.{arith}
 use lib.Dec.{eqb, ltb}
 use borrow.Author.Tests.{eqb-true, eqb-false, ltb-true, eq-eqb, ne-eqb}
@@ -91,10 +91,8 @@ module _ (d : Device) (o : Others d) (s : Sends d) where
   unfolding dataFrame hasC1 messages firstIn firstOf codesIn codesOf
   data-below =
       let b = o .sized .load (d .sent) in
-      chosen (λ x. x < 1024) (eqb (d .sent + 1) (d .loadlength)) _ _
-      (λ e. chosen (λ x. x < 1024) (eqb (d .choice) endLast) _ _
-      (λ c. omega (arith, marked-code d _ (reply end _ refl b) .1))
-      (λ c. omega (arith, marked-code d _ (reply dab _ refl b) .1)))
+      chosen (λ x. x < 1024) (eqb (d .sent + 1) (d .loadlength) && eqb (d .choice) endLast) _ _
+      (λ e. omega (arith, marked-code d _ (reply end _ refl b) .1))
       (λ e. omega (arith, marked-code d _ (reply dab _ refl b) .1))
 
   other-below : otherFrame d < 1024

@@ -1,5 +1,5 @@
-// Saves written before loads took a choice (02, h): whether the devices of one have none, and the choice that each
-// device with data gets when it is opened.
+// Saves of the old edition, from before loads took a choice (02, h): whether byte 19 is zero in the records of one, and
+// the choice that each device with data gets when it is opened.
 use device::Device;
 use record::CHOICE;
 use record::LOAD_LENGTH;
@@ -12,13 +12,12 @@ ghost use lib.ListN.{length};
 ghost use Rattle.record.specs.Record.{recordSize};
 ghost use Rattle.area.specs.Parts.{parts, join, all};
 ghost use Rattle.saved.specs.Saved.{savedDeviceSize};
-ghost use Rattle.saved.specs.Older.{asked};
-ghost use Rattle.saved.specs.Inner.{choicelessIn};
+ghost use Rattle.saved.specs.Older.{asked, zeroChoiceIn};
 
-// Whether none of so many devices' records of a save has a choice.
-pub fn choiceless(records: &[u8], n: usize) -> bool
+// Whether byte 19 is zero in each of so many devices' records of a save.
+pub fn choices_zero(records: &[u8], n: usize) -> bool
     requires { ⌜ savedDeviceSize * n ≤ length (now records) ⌝ }
-    ensures { λ r. ⌜ r ≡ all choicelessIn (parts savedDeviceSize n (now (records .entry))) ⌝ }
+    ensures { λ r. ⌜ r ≡ all zeroChoiceIn (parts savedDeviceSize n (now (records .entry))) ⌝ }
 {
     let mut rest = &records[..];
     let mut left = n;

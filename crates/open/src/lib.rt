@@ -1,5 +1,5 @@
-// Open: a save becomes the lent area, if it has the form and its contents are sound. One written before loads took a
-// choice is opened as its upgrade (02, h).
+// Open: a save becomes the lent area, if it has the form and its contents are sound. One of the old edition is opened
+// as its upgrade (02, h).
 mod old;
 
 use crate::old::open_old;
@@ -11,6 +11,7 @@ use bodies::read_bodies;
 use form::form_right;
 use saved::BAD_SAVE;
 use saved::EDITION_AT;
+use saved::EDITION_OLD;
 use saved::HEAD_SIZE;
 ghost use Rattle.calls.specs.Outcome.{Is};
 ghost use Rattle.saved.specs.Calls.{openOf};
@@ -28,7 +29,7 @@ pub fn open(area: &mut [u8], save: &[u8]) -> u8
     if !bodies_sound(save, n) {
         return UNSOUND;
     }
-    if save[EDITION_AT] == 0 {
+    if save[EDITION_AT] == EDITION_OLD {
         return open_old(area, save, n);
     }
     read_bodies(save, area, n);

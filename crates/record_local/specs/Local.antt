@@ -33,7 +33,8 @@ accepted d = record { refusal = 0; device = d }
 abbrev pub refused : ℕ → Device → Called
 refused k d = record { refusal = k; device = d }
 
--- load: 0 to 32 bytes of data, of which none is sent, and the choice how the last of them goes out
+-- load: 0 to 32 bytes of data, of which none is sent, and the choice how the last of them goes out; any other number is
+-- refused here, and in an area before the device is looked for (calls' loadIn)
 unfoldable pub loads : Device → List ℕ → ℕ → Called
 loads d bs e =
     choose (isChoice e)

@@ -1,5 +1,5 @@
-// The local calls of a device (01, The calls; 02, h), made in its record, refused with 7, 8, 9 in that order. Only the
-// bytes that a call speaks of are written.
+// The local calls of a device (01, The calls; 02, h), made in its record, refused with 7, 8, 9 in that order (2 for a
+// load's choice comes before the device is looked for). Only the bytes that a call speaks of are written.
 use device::Device;
 use record::CHOICE;
 use record::LOAD;
@@ -47,7 +47,7 @@ fn loading(rec: &mut [u8], bytes: &[u8], choice: u8)
     fill(&mut rec[LOAD..SIZE], bytes);
 }
 
-// Load data; the caller has refused every other choice.
+// Load data, by a choice of 0 or 1: the caller has refused the rest.
 pub fn load(rec: &mut [u8], bytes: &[u8], choice: u8) -> u8
     requires { ⌜ IsRecord (now rec) × (choice ≤ endLast) ⌝ }
     ensures { λ r. ⌜ InPlace (now (rec .entry)) (loads (deviceOf (now (rec .entry))) (now (bytes .entry)) choice) r

@@ -55,11 +55,8 @@ fn data_frame(state: State, rec: &[u8]) -> u16
     ensures { λ r. ⌜ r ≡ dataFrame (inRecord (now (rec .entry)) state) ⌝ }
 {
     let byte = load_at(rec, state.sent) as u16;
-    if state.sent + 1 == rec[LOAD_LENGTH] {
-        if rec[CHOICE] == Device::END_LAST {
-            return marked(state, C2 + byte, 0);
-        }
-        return marked(state, byte, 0);
+    if (state.sent + 1 == rec[LOAD_LENGTH]) & (rec[CHOICE] == Device::END_LAST) {
+        return marked(state, C2 + byte, 0);
     }
     marked(state, byte, 0)
 }

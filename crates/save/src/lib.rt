@@ -6,8 +6,8 @@ use area::UNSOUND;
 use judge::contents::contents_sound;
 use judge::shape_right;
 use saved::DEVICE;
-use saved::EDITION;
 use saved::EDITION_AT;
+use saved::EDITION_NOW;
 use saved::HEAD_SIZE;
 use saved::HEADER;
 use saved::HEADER_RECORD;
@@ -25,7 +25,7 @@ ghost use Rattle.area.specs.Parts.{parts, join};
 ghost use Rattle.area.specs.Loop.{countIn, Shaped};
 ghost use Rattle.calls.specs.Outcome.{Is};
 ghost use Rattle.area.specs.Sizes.{headerSize};
-ghost use Rattle.saved.specs.Saved.{headerKind, headSize, recorded, marked, savedSize, saved};
+ghost use Rattle.saved.specs.Saved.{headerKind, headSize, recorded, withEdition, savedSize, saved};
 ghost use Rattle.saved.specs.Calls.{saveOf};
 
 // One record: a head, and the body behind it.
@@ -38,13 +38,13 @@ fn write_record(to: &mut [u8], kind: u8, body: &[u8])
     fill(body, &mut to[HEAD_SIZE..]);
 }
 
-// The header's record, which tells how the save was written.
+// The header's record, with the edition.
 fn write_header(to: &mut [u8], header: &[u8])
     requires { ⌜ (length (now to) ≡ headSize + headerSize) × (length (now header) ≡ headerSize) ⌝ }
-    ensures { λ _. ⌜ now (to .exit) ≡ marked (recorded headerKind (now (header .entry))) ⌝ }
+    ensures { λ _. ⌜ now (to .exit) ≡ withEdition (recorded headerKind (now (header .entry))) ⌝ }
 {
     write_record(to, HEADER, header);
-    to[EDITION_AT] = EDITION;
+    to[EDITION_AT] = EDITION_NOW;
 }
 
 // So many bodies of one size, a record each.

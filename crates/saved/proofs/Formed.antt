@@ -16,15 +16,15 @@ use Rattle.area.specs.Parts.{all}
 use Rattle.area.specs.Link.{soundLink}
 use Rattle.area.specs.Loop.{countIn, recordsIn, linksIn, shaped, shapedWith, Shaped, sound}
 use Rattle.saved.specs.Saved.{headerKind, deviceKind, linkKind, headSize, headOf, recorded, body, editionAt}
-use Rattle.saved.specs.Saved.{unmarked, rowOf, saved, edition}
+use Rattle.saved.specs.Saved.{withoutEdition, rowOf, saved, edition}
 use Rattle.saved.specs.Saved.{savedHeaderSize, savedDeviceSize, savedLinkSize, savedSize, savedCount}
 use Rattle.saved.specs.Saved.{savedHeader, savedDevices, savedLinks, formed, contents}
 use Rattle.saved.specs.Saved.{headed}
-use Rattle.saved.specs.Older.{savedBefore, choiceless}
-use Rattle.saved.specs.Inner.{soundDeviceIn, soundLinkIn, choicelessIn}
+use Rattle.saved.specs.Older.{savedBefore, zeroChoice, zeroChoiceIn}
+use Rattle.saved.specs.Inner.{soundDeviceIn, soundLinkIn}
 use Rattle.saved.proofs.Row.{Row, put-together, seconds-wide, thirds-wide, made}
-use Rattle.saved.proofs.Record.{recorded-wide, body-wide, body-recorded, recorded-is, marked-recorded}
-use Rattle.saved.proofs.Record.{unmarked-again, marked-again}
+use Rattle.saved.proofs.Record.{recorded-wide, body-wide, body-recorded, recorded-is, edition-recorded}
+use Rattle.saved.proofs.Record.{without-again, with-again}
 use Rattle.saved.proofs.Record.{bodies-recorded, recorded-are, recorded-bodies}
 
 all-map : (p : List ℕ → Bool) (f : List ℕ → List ℕ) (xs : List (List ℕ)) → all p (map f xs) ≡ all (λ x. p (f x)) xs
@@ -77,7 +77,7 @@ module _ (a : List ℕ) (h : Shaped a) (b : List ℕ) (w : length b ≡ headerSi
         le-leb _ _ l,
       )
 
-  row-contents : unmarked b ≡ take headerSize a → contents row ≡ a
+  row-contents : withoutEdition b ≡ take headerSize a → contents row ≡ a
   unfolding contents
   row-contents e =
       rw (
@@ -92,7 +92,7 @@ module _ (a : List ℕ) (h : Shaped a) (b : List ℕ) (w : length b ≡ headerSi
       )
       (put-together headerSize recordSize linkSize (countIn a) a (h .long ∙ omega arith))
 
--- ---- the saved form, which has the mark, and the one that was written before
+-- ---- the saved form, and the one that was written before
 
 module _ (a : List ℕ) (h : Shaped a) where
   own : length (take headerSize a) ≡ headerSize
@@ -118,7 +118,7 @@ module _ (a : List ℕ) (h : Shaped a) where
 
   saved-row : saved a ≡ row a h b wide count
   unfolding saved
-  saved-row = rw (marked-recorded headerKind (take headerSize a))
+  saved-row = rw (edition-recorded headerKind (take headerSize a))
 
   pub saved-long : length (saved a) ≡ savedSize (countIn a)
   saved-long = rw saved-row (row-long a h b wide count)
@@ -134,7 +134,7 @@ module _ (a : List ℕ) (h : Shaped a) where
 
   pub contents-saved : getD a 1 0 ≡ 0 → contents (saved a) ≡ a
   contents-saved z =
-      rw saved-row (row-contents a h b wide count (unmarked-again (take headerSize a) (own-zero z)))
+      rw saved-row (row-contents a h b wide count (without-again (take headerSize a) (own-zero z)))
 
   module _ (z : getD a 1 0 ≡ 0) where
     pub count-before : savedCount (savedBefore a) ≡ countIn a
@@ -153,14 +153,14 @@ module _ (a : List ℕ) (h : Shaped a) where
     unfolding savedBefore
     before-long = rw (row-count a h (take headerSize a) own own-count) (row-long a h (take headerSize a) own own-count)
 
-    pub choiceless-before : all choiceless (recordsIn a) ≡ true →
-        all choicelessIn (savedDevices (savedBefore a)) ≡ true
+    pub zero-before : all zeroChoice (recordsIn a) ≡ true →
+        all zeroChoiceIn (savedDevices (savedBefore a)) ≡ true
     unfolding savedBefore
-    choiceless-before t =
+    zero-before t =
         let o = own-count in
         rw (row-count a h (take headerSize a) own o, row-parts a h (take headerSize a) own o .seconds-are)
-        (sym (all-map choiceless body (map (recorded deviceKind) (recordsIn a)))
-        ∙ ap (all choiceless) (bodies-recorded deviceKind (recordsIn a)) ∙ t)
+        (sym (all-map zeroChoice body (map (recorded deviceKind) (recordsIn a)))
+        ∙ ap (all zeroChoice) (bodies-recorded deviceKind (recordsIn a)) ∙ t)
 
     pub contents-before : contents (savedBefore a) ≡ a
     unfolding savedBefore
@@ -174,14 +174,14 @@ module _ (s : List ℕ) (long : length s ≡ savedSize (savedCount s)) where
   header-wide : length (body (savedHeader s)) ≡ headerSize
   header-wide = body-wide headerSize (savedHeader s) (length-take-le savedHeaderSize s (omega arith))
 
-  front : (i : ℕ) → i < headerSize → getD (contents s) i 0 ≡ getD (unmarked (body (savedHeader s))) i 0
+  front : (i : ℕ) → i < headerSize → getD (contents s) i 0 ≡ getD (withoutEdition (body (savedHeader s))) i 0
   unfolding contents
   front i h =
-      let w : length (unmarked (body (savedHeader s))) ≡ headerSize =
+      let w : length (withoutEdition (body (savedHeader s))) ≡ headerSize =
       length-set (body (savedHeader s)) 1 0 ∙ header-wide in
-      List·getD-append (unmarked (body (savedHeader s))) _ 0 i (omega arith)
+      List·getD-append (withoutEdition (body (savedHeader s))) _ 0 i (omega arith)
 
-  -- the header's bytes stand in the first body, but for the mark
+  -- the header's bytes stand in the first body, but for the edition
   header-byte : (i : ℕ) → i < headerSize → (i ≡ 1 → ⊥) → getD (contents s) i 0 ≡ getD s (headSize + i) 0
   header-byte i h n =
       front i h ∙ getD-set-other (body (savedHeader s)) 1 i 0 0 n ∙ getD-drop headSize (savedHeader s) i 0
@@ -194,22 +194,22 @@ module _ (s : List ℕ) (long : length s ≡ savedSize (savedCount s)) where
   header-bytes (suc n) k l h =
       rw (header-byte k (omega arith) (λ e. omega arith), getD-drop, header-bytes n (suc k) (omega arith) (omega arith))
 
-  unmarked-held : getD (contents s) 1 0 ≡ 0
-  unmarked-held = front 1 (omega arith) ∙ getD-set-same (body (savedHeader s)) 1 0 0 (rw header-wide (omega arith))
+  own-held : getD (contents s) 1 0 ≡ 0
+  own-held = front 1 (omega arith) ∙ getD-set-same (body (savedHeader s)) 1 0 0 (rw header-wide (omega arith))
 
   header-zeros : zeros (bytesFrom 2 6 (drop headSize s)) ≡ zeros (bytesFrom 1 (headerSize - 1) (contents s))
   unfolding bytesFrom zeros
-  header-zeros = rw unmarked-held (ap zeros (sym (header-bytes 6 2 (omega arith) (omega arith))))
+  header-zeros = rw own-held (ap zeros (sym (header-bytes 6 2 (omega arith) (omega arith))))
 
   pub count-held : countIn (contents s) ≡ savedCount s
   count-held = header-byte 0 (omega arith) (λ e. omega arith)
 
-  pub row-held : Row headerSize recordSize linkSize (savedCount s) (contents s) (unmarked (body (savedHeader s)))
+  pub row-held : Row headerSize recordSize linkSize (savedCount s) (contents s) (withoutEdition (body (savedHeader s)))
       (map body (savedDevices s)) (map body (savedLinks s))
   unfolding contents
   row-held =
       made savedHeaderSize savedDeviceSize savedLinkSize (savedCount s) s (long ∙ omega arith) headerSize recordSize
-      linkSize (λ p. unmarked (body p)) body body (λ p w. length-set (body p) 1 0 ∙ body-wide headerSize p w)
+      linkSize (λ p. withoutEdition (body p)) body body (λ p w. length-set (body p) 1 0 ∙ body-wide headerSize p w)
       (body-wide recordSize) (body-wide linkSize)
 
   pub contents-long : length (contents s) ≡ areaSize (savedCount s)
@@ -229,7 +229,7 @@ module _ (s : List ℕ) (long : length s ≡ savedSize (savedCount s)) where
         all-map soundLink body,
       )
 
-  -- with its records' lengths and kinds, and the mark, it is the saved form of its contents
+  -- with its records' lengths and kinds, and the edition now, it is the saved form of its contents
   pub saved-held : headed s ≡ true → edition s ≡ 1 → saved (contents s) ≡ s
   unfolding saved headed
   saved-held t m =
@@ -240,7 +240,7 @@ module _ (s : List ℕ) (long : length s ≡ savedSize (savedCount s)) where
         row-held .first-is,
         row-held .seconds-are,
         row-held .thirds-are,
-        marked-again headerKind (savedHeader s) (search left)
+        with-again headerKind (savedHeader s) (search left)
             (rw (length-take-le savedHeaderSize s (omega arith)) (omega arith))
             (getD-take savedHeaderSize s editionAt 0 (omega arith) ∙ m),
         recorded-bodies deviceKind savedDeviceSize (savedDevices s)

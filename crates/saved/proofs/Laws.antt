@@ -17,23 +17,24 @@ use Rattle.record.proofs.Both.{left}
 use Rattle.record.proofs.Bytes.{small-bytes, bytes-append}
 use Rattle.area.specs.Sizes.{headerSize, linkSize, mostDevices, recordAt, areaSize}
 use Rattle.area.specs.Parts.{parts, join}
-use Rattle.area.specs.Loop.{countIn, recordsIn, shaped, judgeOf, judgeWith, sound, shape, unsound}
+use Rattle.area.specs.Loop.{countIn, recordsIn, linksIn, shaped, judgeOf, judgeWith, sound, shape, unsound}
 use Rattle.area.proofs.Parts.{bytes-part}
 use Rattle.area.proofs.Each.{each-set, each-bytes}
 use Rattle.area.proofs.Areas.{judge-zero, is-shaped}
 use Rattle.calls.specs.Outcome.{After, after}
 use Rattle.saved.specs.Saved.{headerKind, deviceKind, linkKind, headSize, headOf, recorded, body, editionAt}
-use Rattle.saved.specs.Saved.{marked, unmarked, saved, edition}
+use Rattle.saved.specs.Saved.{withEdition, withoutEdition, saved, edition}
 use Rattle.saved.specs.Saved.{savedHeaderSize, savedDeviceSize, savedLinkSize, savedLinksAt, savedSize}
 use Rattle.saved.specs.Saved.{savedCount, savedHeader, savedDevices, savedLinks, formed, contents}
 use Rattle.saved.specs.Older.{savedBefore, old, askedIn, upgrade, opened, soundSave}
 use Rattle.saved.specs.Calls.{badSave, saveOf, saveWith, openWith, openOf}
 use Rattle.saved.specs.Laws.{SavedLong, OpenAfterSave, OpenOver, OneForm, OldForm, SaveOpened, SavedOnce}
-use Rattle.saved.specs.Laws.{OldOpens, SavedBytes, OpenedBytes}
+use Rattle.saved.specs.Laws.{OldOpens, OpenedLinks, SavedBytes, OpenedBytes}
 use Rattle.saved.proofs.Formed.{Formed, is-formed, held-shaped, saved-held, saved-long}
 use Rattle.saved.proofs.Formed.{count-saved, edition-saved, saved-formed, contents-saved, count-before}
-use Rattle.saved.proofs.Formed.{edition-before, before-formed, before-long, choiceless-before, contents-before}
-use Rattle.saved.proofs.Older.{same-parts, count-up, edition-up, long-up, heads-up, contents-up, sound-up}
+use Rattle.saved.proofs.Formed.{edition-before, before-formed, before-long, zero-before, contents-before}
+use Rattle.saved.proofs.Older.{same-parts, count-up, edition-up, long-up, heads-up, links-up, contents-up}
+use Rattle.saved.proofs.Older.{sound-up}
 use Rattle.saved.proofs.Tests.{save-done, open-new, open-old}
 
 pub saved-is-long : SavedLong
@@ -148,10 +149,10 @@ bytes-bodies s h =
 
 -- ---- the one form
 
--- a save in form and marked, with sound contents, is their saved form
-marked-form : (s : List ℕ) → Formed mostDevices s → edition s ≡ 1 → sound (contents s) ≡ true →
+-- a save in form and of the edition now, with sound contents, is their saved form
+new-form : (s : List ℕ) → Formed mostDevices s → edition s ≡ 1 → sound (contents s) ≡ true →
     (judgeOf (contents s) ≡ 0) × (s ≡ saved (contents s))
-marked-form s f m t = (zero-judge (contents s) (held-shaped s f) t, sym (saved-held s (f .long) (f .heads) m))
+new-form s f m t = (zero-judge (contents s) (held-shaped s f) t, sym (saved-held s (f .long) (f .heads) m))
 
 pub one-form : OneForm
 unfolding opened
@@ -160,7 +161,7 @@ one-form a lent s h n =
     let f = o .form in
     let z : edition s ≡ 0 → ⊥ = eqb-false (edition s) 0 n in
     let e : contents s ≡ a = rw n at (o .is) in
-    rw (← e) (marked-form s f (omega (arith, f .written)) (o .fine))
+    rw (← e) (new-form s f (omega (arith, f .written)) (o .fine))
 
 pub old-form : OldForm
 unfolding opened
@@ -177,7 +178,18 @@ old-form a lent s small h n =
       written = rw (edition-up s (f .long)) (omega arith);
     } in
     rw (← e)
-    (marked-form (upgrade s) g (edition-up s (f .long)) (sound-up s (f .long) (bytes-bodies s small) (o .fine)))
+    (new-form (upgrade s) g (edition-up s (f .long)) (sound-up s (f .long) (bytes-bodies s small) (o .fine)))
+
+pub opened-links : OpenedLinks
+unfolding opened
+opened-links a lent s h =
+    let o = opening a lent s h in
+    rw (← (o .is)) (go (old s) (o .form .long))
+  where
+    go : (t : Bool) → length s ≡ savedSize (savedCount s) →
+        linksIn (contents (cond t (upgrade s) s)) ≡ linksIn (contents s)
+    go true l = links-up s l
+    go false l = refl
 
 pub save-opened : SaveOpened
 save-opened a lent s out small h l = go (old s) refl
@@ -213,7 +225,7 @@ old-opens a lent h t l =
     let c = contents-before a s z in
     open-old mostDevices lent (savedBefore a) (before-formed a s z)
     (rw (count-before a s z) (l ∙ s .long)) (rw c (j .1)) n
-    ∙ rw (choiceless-before a s z t, contents-up (savedBefore a) (before-long a s z), c)
+    ∙ rw (zero-before a s z t, contents-up (savedBefore a) (before-long a s z), c)
 
 -- ---- bytes
 
@@ -223,7 +235,7 @@ bytes-set b i x l h = each-set (λ y. y < 256) 0 b i x l h
 pub saved-bytes : SavedBytes
 unfolding saved
 saved-bytes a h =
-    bytes-append (marked (recorded headerKind (take headerSize a))) _
+    bytes-append (withEdition (recorded headerKind (take headerSize a))) _
     (bytes-set (recorded headerKind (take headerSize a)) editionAt 1 (omega arith)
     (bytes-recorded headerKind _ (bytes-part 0 headerSize a h)))
     (bytes-append (join (map (recorded deviceKind) (recordsIn a))) _
@@ -236,7 +248,7 @@ contents-bytes : (s : List ℕ) → Bytes s → Bytes (contents s)
 unfolding contents
 contents-bytes s h =
     let run = bytes-run body (bytes-dropped headSize) in
-    bytes-append (unmarked (body (savedHeader s))) _
+    bytes-append (withoutEdition (body (savedHeader s))) _
     (bytes-set (body (savedHeader s)) 1 0 (omega arith)
     (bytes-dropped headSize (savedHeader s) (bytes-part 0 savedHeaderSize s h)))
     (bytes-append (join (map body (savedDevices s))) _
@@ -253,7 +265,7 @@ bytes-asked r h = go (ltb 0 (getD r (headSize + loadlength) 0))
 upgrade-bytes : (s : List ℕ) → Bytes s → Bytes (upgrade s)
 unfolding upgrade
 upgrade-bytes s h =
-    bytes-append (marked (savedHeader s)) _
+    bytes-append (withEdition (savedHeader s)) _
     (bytes-set (savedHeader s) editionAt 1 (omega arith) (bytes-part 0 savedHeaderSize s h))
     (bytes-append (join (map askedIn (savedDevices s))) _
     (bytes-run askedIn bytes-asked savedDeviceSize (savedCount s) _ (bytes-dropped savedHeaderSize s h))

@@ -1,5 +1,5 @@
--- Old saves: the upgrade of a save in form is in form and marked, and what it holds is what the save does, with END
--- chosen by each device with data.
+-- Old saves: the upgrade of a save in form is in form and of the edition now, and what it holds is what the save does,
+-- with END chosen by each device with data.
 use mathlib.Core.Path.{_≡_, refl, sym, ap, _∙_}
 use mathlib.Core.List.{List, [], _∷_, _++_, map, append-nil}
 use mathlib.Core.Bool.{Bool, true, false, cond, _&&_}
@@ -23,15 +23,16 @@ use Rattle.area.specs.Sizes.{headerSize, linkSize, recordAt}
 use Rattle.area.specs.Link.{soundLink}
 use Rattle.area.specs.Parts.{parts, join, all}
 use Rattle.area.proofs.Parts.{length-parts}
-use Rattle.area.specs.Loop.{countIn, sound}
+use Rattle.area.specs.Loop.{countIn, linksIn, sound}
 use Rattle.saved.specs.Saved.{headerKind, deviceKind, headSize, headOf, recorded, body, editionAt}
-use Rattle.saved.specs.Saved.{marked, unmarked, rowOf, savedHeaderSize, savedDeviceSize, savedLinkSize, savedSize}
+use Rattle.saved.specs.Saved.{withEdition, withoutEdition, rowOf, savedHeaderSize, savedDeviceSize}
+use Rattle.saved.specs.Saved.{savedLinkSize, savedSize}
 use Rattle.saved.specs.Saved.{savedCount, edition, savedHeader, savedDevices, savedLinks, isOf, headed, contents}
 use Rattle.saved.specs.Older.{askedFrom, asked, askedIn, upgrade, askedArea}
 use Rattle.saved.proofs.Wide.{Wide, map-wide, length-wide, cut-wide}
 use Rattle.saved.proofs.Row.{Row, put-together, seconds-wide, made}
-use Rattle.saved.proofs.Record.{recorded-is, recorded-body, recorded-are, recorded-bodies, marked-recorded}
-use Rattle.saved.proofs.Record.{body-wide, body-marked}
+use Rattle.saved.proofs.Record.{recorded-is, recorded-body, recorded-are, recorded-bodies, edition-recorded}
+use Rattle.saved.proofs.Record.{body-wide, body-edition}
 use Rattle.saved.proofs.Formed.{count-held, row-held}
 use Rattle.saved.proofs.Runs.{given}
 
@@ -120,19 +121,19 @@ module _ (s : List ℕ) (long : length s ≡ savedSize (savedCount s)) where
   wide : length (savedHeader s) ≡ savedHeaderSize
   wide = length-take-le savedHeaderSize s (omega arith)
 
-  row-up : Row savedHeaderSize savedDeviceSize savedLinkSize (savedCount s) (upgrade s) (marked (savedHeader s))
+  row-up : Row savedHeaderSize savedDeviceSize savedLinkSize (savedCount s) (upgrade s) (withEdition (savedHeader s))
       (map askedIn (savedDevices s)) (savedLinks s)
   unfolding upgrade
   row-up =
       rw (same-parts (savedLinks s)) at
       (made savedHeaderSize savedDeviceSize savedLinkSize (savedCount s) s (long ∙ omega arith) savedHeaderSize
-      savedDeviceSize savedLinkSize marked askedIn (λ p. p) (λ p w. length-set p editionAt 1 ∙ w)
+      savedDeviceSize savedLinkSize withEdition askedIn (λ p. p) (λ p w. length-set p editionAt 1 ∙ w)
       (λ p w. asked-wide headSize p ∙ w) (λ p w. w))
 
   pub count-up : savedCount (upgrade s) ≡ savedCount s
   unfolding upgrade
   count-up =
-      List·getD-append (marked (savedHeader s)) _ 0 headSize
+      List·getD-append (withEdition (savedHeader s)) _ 0 headSize
       (rw (length-set (savedHeader s) editionAt 1, wide) (omega arith))
       ∙ getD-set-other (savedHeader s) editionAt headSize 1 0 (λ e. omega arith)
       ∙ getD-take savedHeaderSize s headSize 0 (omega arith)
@@ -140,7 +141,7 @@ module _ (s : List ℕ) (long : length s ≡ savedSize (savedCount s)) where
   pub edition-up : edition (upgrade s) ≡ 1
   unfolding upgrade
   edition-up =
-      List·getD-append (marked (savedHeader s)) _ 0 editionAt
+      List·getD-append (withEdition (savedHeader s)) _ 0 editionAt
       (rw (length-set (savedHeader s) editionAt 1, wide) (omega arith))
       ∙ getD-set-same (savedHeader s) editionAt 1 0 (rw wide (omega arith))
 
@@ -148,11 +149,11 @@ module _ (s : List ℕ) (long : length s ≡ savedSize (savedCount s)) where
   long-up = rw count-up (row-up .long ∙ omega arith)
 
   -- in form as the save is
-  header-up : isOf headerKind (savedHeader s) ≡ true → isOf headerKind (marked (savedHeader s)) ≡ true
+  header-up : isOf headerKind (savedHeader s) ≡ true → isOf headerKind (withEdition (savedHeader s)) ≡ true
   header-up t =
       let e : recorded headerKind (body (savedHeader s)) ≡ savedHeader s =
       recorded-body headerKind (savedHeader s) t (rw wide (omega arith)) in
-      ap (isOf headerKind) (ap marked (sym e) ∙ marked-recorded headerKind (body (savedHeader s)))
+      ap (isOf headerKind) (ap withEdition (sym e) ∙ edition-recorded headerKind (body (savedHeader s)))
       ∙ recorded-is headerKind (set (body (savedHeader s)) 1 1)
 
   devices-up : all (isOf deviceKind) (savedDevices s) ≡ true →
@@ -179,24 +180,34 @@ module _ (s : List ℕ) (long : length s ≡ savedSize (savedCount s)) where
 
   -- what it holds: the save's own parts, with END chosen
   row-asked : Row headerSize recordSize linkSize (savedCount s) (contents (upgrade s))
-      (unmarked (body (savedHeader s))) (map asked (map body (savedDevices s))) (map body (savedLinks s))
+      (withoutEdition (body (savedHeader s))) (map asked (map body (savedDevices s))) (map body (savedLinks s))
   row-asked =
       rw (
         count-up,
         row-up .first-is,
         row-up .seconds-are,
         row-up .thirds-are,
-        body-marked (savedHeader s),
+        body-edition (savedHeader s),
         set-set (body (savedHeader s)) 1 1 0,
         bodies-asked (savedDevices s),
       )
       at (row-held (upgrade s) long-up)
 
   contents-asked : contents (upgrade s) ≡
-      rowOf (unmarked (body (savedHeader s))) (map asked (map body (savedDevices s))) (map body (savedLinks s))
+      rowOf (withoutEdition (body (savedHeader s))) (map asked (map body (savedDevices s))) (map body (savedLinks s))
   contents-asked =
       sym (put-together headerSize recordSize linkSize (savedCount s) (contents (upgrade s)) (row-asked .long))
       ∙ rw (row-asked .first-is, row-asked .seconds-are, row-asked .thirds-are)
+
+  pub links-up : linksIn (contents (upgrade s)) ≡ linksIn (contents s)
+  links-up =
+      rw (
+        count-held (upgrade s) long-up,
+        count-up,
+        row-asked .thirds-are,
+        count-held s long,
+        row-held s long .thirds-are,
+      )
 
   pub contents-up : contents (upgrade s) ≡ askedArea (contents s)
   unfolding askedArea
@@ -215,7 +226,7 @@ module _ (s : List ℕ) (long : length s ≡ savedSize (savedCount s)) where
       ≡ contents (upgrade s)
   unfolding contents
   asked-in-place n links e f =
-      let p = unmarked (body (savedHeader s)) in
+      let p = withoutEdition (body (savedHeader s)) in
       let ds = map body (savedDevices s) in
       let ls = map body (savedLinks s) in
       let pl : length p ≡ headerSize = length-set (body (savedHeader s)) 1 0
@@ -237,7 +248,7 @@ module _ (s : List ℕ) (long : length s ≡ savedSize (savedCount s)) where
       sound (contents (upgrade s)) ≡ true
   sound-up small t =
       let r = row-held s long in
-      let p = unmarked (body (savedHeader s)) in
+      let p = withoutEdition (body (savedHeader s)) in
       let ds = map body (savedDevices s) in
       let ls = map body (savedLinks s) in
       let h = sound-parts (savedCount s) (contents s) p ds ls r (count-held s long) in

@@ -1,4 +1,4 @@
--- One record: a body and the record of it give each other back, what starts as a record is one, and the mark in the
+-- One record: a body and the record of it give each other back, what starts as a record is one, and the edition in the
 -- header's is put there and taken away.
 use mathlib.Core.Path.{_≡_, refl, sym, ap, _∙_}
 use mathlib.Core.List.{List, [], _∷_, map}
@@ -13,7 +13,8 @@ use Rattle.record.proofs.Both.{left, right}
 use Rattle.area.specs.Parts.{all}
 use Rattle.area.proofs.Links.{and-true}
 use Rattle.area.proofs.Each.{each-all, each-again}
-use Rattle.saved.specs.Saved.{headSize, headOf, recorded, body, editionAt, marked, unmarked, stands, isOf}
+use Rattle.saved.specs.Saved.{headSize, headOf, recorded, body, editionAt, withEdition, withoutEdition, stands}
+use Rattle.saved.specs.Saved.{isOf}
 use Rattle.saved.proofs.Wide.{Wide}
 
 pub head-wide : (k n : ℕ) → length (headOf k n) ≡ headSize
@@ -66,25 +67,25 @@ recorded-body k r t l =
     let e : take headSize r ≡ h = rw w at (stands-take h 0 r t (rw w l)) in
     rw (← e) (take-append-drop headSize r)
 
--- the mark stands in the body
-pub marked-recorded : (k : ℕ) (b : List ℕ) → marked (recorded k b) ≡ recorded k (set b 1 1)
+-- the edition stands in the body
+pub edition-recorded : (k : ℕ) (b : List ℕ) → withEdition (recorded k b) ≡ recorded k (set b 1 1)
 unfolding recorded headOf
-marked-recorded k b = rw (length-set b 1 1)
+edition-recorded k b = rw (length-set b 1 1)
 
-pub body-marked : (r : List ℕ) → body (marked r) ≡ set (body r) 1 1
-body-marked r = drop-set-add headSize r 1 1
+pub body-edition : (r : List ℕ) → body (withEdition r) ≡ set (body r) 1 1
+body-edition r = drop-set-add headSize r 1 1
 
--- a body without it, marked and not, and a record with it, not marked and marked
-pub unmarked-again : (b : List ℕ) → getD b 1 0 ≡ 0 → unmarked (set b 1 1) ≡ b
-unmarked-again b z = set-set b 1 1 0 ∙ ap (λ (x : ℕ). set b 1 x) (sym z) ∙ set-getD b 1 0
+-- put into a body without it and taken away again, and taken away from a record with it and put there again
+pub without-again : (b : List ℕ) → getD b 1 0 ≡ 0 → withoutEdition (set b 1 1) ≡ b
+without-again b z = set-set b 1 1 0 ∙ ap (λ (x : ℕ). set b 1 x) (sym z) ∙ set-getD b 1 0
 
-pub marked-again : (k : ℕ) (r : List ℕ) → isOf k r ≡ true → headSize ≤ length r → getD r editionAt 0 ≡ 1 →
-    marked (recorded k (unmarked (body r))) ≡ r
-marked-again k r t l e =
+pub with-again : (k : ℕ) (r : List ℕ) → isOf k r ≡ true → headSize ≤ length r → getD r editionAt 0 ≡ 1 →
+    withEdition (recorded k (withoutEdition (body r))) ≡ r
+with-again k r t l e =
     let m : getD (body r) 1 0 ≡ 1 = getD-drop headSize r 1 0 ∙ e in
     let b : set (set (body r) 1 0) 1 1 ≡ body r =
     set-set (body r) 1 0 1 ∙ ap (λ (x : ℕ). set (body r) 1 x) (sym m) ∙ set-getD (body r) 1 0 in
-    marked-recorded k (unmarked (body r)) ∙ ap (recorded k) b ∙ recorded-body k r t l
+    edition-recorded k (withoutEdition (body r)) ∙ ap (recorded k) b ∙ recorded-body k r t l
 
 -- the tests of a head, byte by byte, with what each is compared with
 pub head-tests : (k : ℕ) (r : List ℕ) (a b c d e f : ℕ) → length r < 256 → k < 256 → a ≡ length r - headSize → b ≡ 0 →

@@ -6,10 +6,10 @@ use mathlib.Core.List.{List}
 use lib.ListN.{length}
 use Rattle.record.specs.Fits.{Bytes}
 use Rattle.area.specs.Parts.{all}
-use Rattle.area.specs.Loop.{countIn, recordsIn, judgeOf}
+use Rattle.area.specs.Loop.{countIn, recordsIn, linksIn, judgeOf}
 use Rattle.calls.specs.Outcome.{after}
-use Rattle.saved.specs.Saved.{saved, savedSize}
-use Rattle.saved.specs.Older.{savedBefore, old, choiceless, upgrade, upgraded, opened, askedArea}
+use Rattle.saved.specs.Saved.{saved, savedSize, contents}
+use Rattle.saved.specs.Older.{savedBefore, old, zeroChoice, upgrade, upgraded, opened, askedArea}
 use Rattle.saved.specs.Calls.{saveOf, openOf}
 
 -- A save of n devices is 30 + 86n bytes, and an area's saved form has that length
@@ -43,11 +43,15 @@ SaveOpened = (a lent s out : List ℕ) → Bytes s → openOf lent s ≡ after 0
 abbrev pub SavedOnce : Type 0
 SavedOnce = (a b : List ℕ) → judgeOf a ≡ 0 → judgeOf b ≡ 0 → saved a ≡ saved b → a ≡ b
 
--- What was written before still opens: an area without a refusal in which no device has a choice, as all were then,
+-- What was written before still opens: an area without a refusal in which every byte 19 is zero, as all were then,
 -- comes back with END chosen by each device with data
 abbrev pub OldOpens : Type 0
-OldOpens = (a lent : List ℕ) → judgeOf a ≡ 0 → all choiceless (recordsIn a) ≡ true → length lent ≡ length a →
+OldOpens = (a lent : List ℕ) → judgeOf a ≡ 0 → all zeroChoice (recordsIn a) ≡ true → length lent ≡ length a →
     openOf lent (savedBefore a) ≡ after 0 (askedArea a)
+
+-- An opening keeps the links that the save holds
+abbrev pub OpenedLinks : Type 0
+OpenedLinks = (a lent s : List ℕ) → openOf lent s ≡ after 0 a → linksIn a ≡ linksIn (contents s)
 
 -- The saved form of bytes is bytes, and what a save of bytes opens to is
 abbrev pub SavedBytes : Type 0

@@ -1,5 +1,5 @@
--- Saves written before loads took a choice (02, h), told by kind 1's byte 1 being zero: such a save is opened as its
--- upgrade, the save that would be written now.
+-- Saves of the old edition, from before loads took a choice (02, h): such a save is opened as its upgrade, the save
+-- that would be written now.
 use Prim.Native.Nat.{ℕ, _+_}
 use mathlib.Core.List.{List, map}
 use mathlib.Core.Bool.{Bool, _&&_, cond}
@@ -11,10 +11,11 @@ use Rattle.record.specs.Sound.{only}
 use Rattle.area.specs.Sizes.{headerSize}
 use Rattle.area.specs.Parts.{all}
 use Rattle.area.specs.Loop.{recordsIn, linksIn, sound}
-use Rattle.saved.specs.Saved.{headerKind, deviceKind, linkKind, headSize, recorded, body, marked, rowOf, edition}
+use Rattle.saved.specs.Saved.{headerKind, deviceKind, linkKind, headSize, recorded, body, editionOld}
+use Rattle.saved.specs.Saved.{withEdition, rowOf, edition}
 use Rattle.saved.specs.Saved.{savedHeader, savedDevices, savedLinks, contents}
 
--- the form that was written before: the area's own byte stands in kind 1
+-- the form that was written then: kind 1 has the area's own byte 1
 unfoldable pub savedBefore : List ℕ → List ℕ
 savedBefore a =
     rowOf (recorded headerKind (take headerSize a))
@@ -22,13 +23,13 @@ savedBefore a =
 
 -- such a save
 abbrev pub old : List ℕ → Bool
-old s = eqb (edition s) 0
+old s = eqb (edition s) editionOld
 
 -- ---- A device's 64 bytes
 
--- no choice: byte 19 is zero
-abbrev pub choiceless : List ℕ → Bool
-choiceless b = eqb (getD b choice 0) plainLast
+-- byte 19 is zero, as it was in all of them
+abbrev pub zeroChoice : List ℕ → Bool
+zeroChoice b = eqb (getD b choice 0) plainLast
 
 -- END is chosen where there is data, by the device whose bytes start at a place
 abbrev pub askedFrom : ℕ → List ℕ → List ℕ
@@ -43,9 +44,13 @@ asked b = askedFrom 0 b
 abbrev pub askedIn : List ℕ → List ℕ
 askedIn r = askedFrom headSize r
 
--- the upgrade: 1 in kind 1's byte 1, and END chosen by each device with data
+-- and its byte 19 is zero
+abbrev pub zeroChoiceIn : List ℕ → Bool
+zeroChoiceIn r = zeroChoice (body r)
+
+-- the upgrade: the edition now, and END chosen by each device with data
 unfoldable pub upgrade : List ℕ → List ℕ
-upgrade s = rowOf (marked (savedHeader s)) (map askedIn (savedDevices s)) (savedLinks s)
+upgrade s = rowOf (withEdition (savedHeader s)) (map askedIn (savedDevices s)) (savedLinks s)
 
 -- a save as it is opened, and the area that comes of it
 abbrev pub upgraded : List ℕ → List ℕ
@@ -54,9 +59,9 @@ upgraded s = cond (old s) (upgrade s) s
 unfoldable pub opened : List ℕ → List ℕ
 opened s = contents (upgraded s)
 
--- what was saved is sound: the contents are, as they stand there, and in an old save no device has a choice
+-- what was saved is sound: the contents are, as they stand there, and in an old save byte 19 of every record is zero
 unfoldable pub soundSave : List ℕ → Bool
-soundSave s = sound (contents s) && only (old s) (all (λ r. choiceless (body r)) (savedDevices s))
+soundSave s = sound (contents s) && only (old s) (all zeroChoiceIn (savedDevices s))
 
 -- ---- An area
 

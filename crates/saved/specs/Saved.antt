@@ -43,25 +43,31 @@ body r = drop headSize r
 
 -- ---- Written
 
--- kind 1's byte 1 tells how a save was written (02, h): 0 before loads took a choice, 1 since. The area's own is zero
+-- kind 1's byte 1 is the edition of a save (02, h): 0 in those from before loads took a choice, 1 now
 abbrev pub editionAt : ℕ
 editionAt = headSize + 1
 
--- a record of kind 1 with 1 there, and a body with the area's own byte
-abbrev pub marked : List ℕ → List ℕ
-marked r = set r editionAt 1
+abbrev pub editionOld : ℕ
+editionOld = 0
 
-abbrev pub unmarked : List ℕ → List ℕ
-unmarked b = set b 1 0
+abbrev pub editionNow : ℕ
+editionNow = 1
 
--- the records of an area: its header, once and first, then each device's record, then each link, in order
+-- a record of kind 1 with the edition now, and its body with the area's own byte 1, which is zero
+abbrev pub withEdition : List ℕ → List ℕ
+withEdition r = set r editionAt editionNow
+
+abbrev pub withoutEdition : List ℕ → List ℕ
+withoutEdition b = set b 1 0
+
+-- parts in a row: the header's, once and first, then each device's, then each link's, in order
 abbrev pub rowOf : (header : List ℕ) (devices links : List (List ℕ)) → List ℕ
 rowOf h ds ls = h ++ (join ds ++ join ls)
 
 -- the saved form of an area
 unfoldable pub saved : List ℕ → List ℕ
 saved a =
-    rowOf (marked (recorded headerKind (take headerSize a)))
+    rowOf (withEdition (recorded headerKind (take headerSize a)))
     (map (recorded deviceKind) (recordsIn a)) (map (recorded linkKind) (linksIn a))
 
 -- ---- Read
@@ -87,7 +93,7 @@ savedSize n = savedLinksAt n + savedLinkSize * (n + 1)
 abbrev pub savedCount : List ℕ → ℕ
 savedCount s = getD s headSize 0
 
--- how it was written
+-- its edition
 abbrev pub edition : List ℕ → ℕ
 edition s = getD s editionAt 0
 
@@ -116,12 +122,12 @@ headed s =
     isOf headerKind (savedHeader s) &&
     (all (isOf deviceKind) (savedDevices s) && all (isOf linkKind) (savedLinks s))
 
--- a save in form, to a reader of at most so many devices: its count, its end, its records, and how it was written
+-- a save in form, to a reader of at most so many devices: its count, its end, its records and its edition
 unfoldable pub formed : ℕ → List ℕ → Bool
 formed limit s =
     isCount limit (savedCount s) &&
-    (eqb (length s) (savedSize (savedCount s)) && (headed s && leb (edition s) 1))
+    (eqb (length s) (savedSize (savedCount s)) && (headed s && leb (edition s) editionNow))
 
 -- the area that a save holds: its bodies
 unfoldable pub contents : List ℕ → List ℕ
-contents s = rowOf (unmarked (body (savedHeader s))) (map body (savedDevices s)) (map body (savedLinks s))
+contents s = rowOf (withoutEdition (body (savedHeader s))) (map body (savedDevices s)) (map body (savedLinks s))

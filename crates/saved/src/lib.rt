@@ -18,10 +18,12 @@ pub const DEVICE_RECORD: usize = HEAD_SIZE + record::SIZE;
 
 pub const LINK_RECORD: usize = HEAD_SIZE + LINK_SIZE;
 
-// Where a save tells how it was written, and how it does now: kind 1's byte 1.
+// The edition of a save, kind 1's byte 1: its place, before loads took a choice, and now.
 pub const EDITION_AT: usize = HEAD_SIZE + 1;
 
-pub const EDITION: u8 = 1;
+pub const EDITION_OLD: u8 = 0;
+
+pub const EDITION_NOW: u8 = 1;
 
 // Refusal: not the form of a save.
 pub const BAD_SAVE: u8 = 10;

@@ -10,14 +10,14 @@ use Rattle.area.specs.Sizes.{headerSize, recordAt}
 use Rattle.area.specs.Parts.{parts, join}
 use Rattle.area.proofs.Parts.{rest-is}
 use Rattle.saved.specs.Saved.{headSize, savedHeaderSize, savedDeviceSize, savedLinkSize, savedLinksAt, savedCount}
-use Rattle.saved.specs.Saved.{body, unmarked, contents}
+use Rattle.saved.specs.Saved.{body, withoutEdition, contents}
 use Rattle.saved.proofs.Runs.{part-of, lent-long, three}
 use borrow.Author.Needs.{needs}
 use Rattle.bodies.proofs.read_bodies.Statement.{statement}
 use Rattle.bodies.proofs.read_bodies.Tie as tie
 
 together : (s p ds ls : List ℕ) (n m l from at : ℕ) → n ≡ savedCount s →
-    p ≡ unmarked (take headerSize (drop headSize s)) →
+    p ≡ withoutEdition (take headerSize (drop headSize s)) →
     ds ≡ join (map body (parts savedDeviceSize m (take (length s - from) (drop from s)))) →
     ls ≡ join (map body (parts savedLinkSize l (take (length s - at) (drop at s)))) → m ≡ n →
     from ≡ savedHeaderSize → l ≡ n + 1 → at ≡ savedLinksAt n → p ++ (ds ++ ls) ≡ contents s

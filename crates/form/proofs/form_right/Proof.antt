@@ -1,4 +1,4 @@
--- A save too short for a count has none; else the tests of its count and of its length, then the heads and the mark.
+-- A save too short for a count has none; else the tests of its count and of its length, then the heads and the edition.
 use mathlib.Core.Path.{refl, sym, _∙_}
 use native.Mathlib.Omega.{arith}
 use borrow.Author.Tests.{not-true, not-false}

@@ -1,4 +1,4 @@
--- The record of the header, and then its mark.
+-- The record of the header, and then the edition.
 use borrow.Author.Needs.{needs}
 use Rattle.save.proofs.write_header.Statement.{statement}
 use Rattle.save.proofs.write_header.Tie as tie

@@ -10,14 +10,14 @@ use Rattle.area.specs.Sizes.{headerSize, linkSize, recordAt}
 use Rattle.area.specs.Parts.{parts, join}
 use Rattle.area.specs.Loop.{countIn}
 use Rattle.area.proofs.Parts.{rest-is}
-use Rattle.saved.specs.Saved.{headerKind, deviceKind, linkKind, savedHeaderSize, recorded, marked, saved}
+use Rattle.saved.specs.Saved.{headerKind, deviceKind, linkKind, savedHeaderSize, recorded, withEdition, saved}
 use Rattle.saved.proofs.Runs.{three}
 use borrow.Author.Needs.{needs}
 use Rattle.save.proofs.write_records.Statement.{statement}
 use Rattle.save.proofs.write_records.Tie as tie
 
 together : (a p ds ls : List ℕ) (n m l j k from at : ℕ) → n ≡ countIn a →
-    p ≡ marked (recorded headerKind (take headerSize a)) →
+    p ≡ withEdition (recorded headerKind (take headerSize a)) →
     ds ≡ join (map (recorded j) (parts recordSize m (take (length a - from) (drop from a)))) →
     ls ≡ join (map (recorded k) (parts linkSize l (take (length a - at) (drop at a)))) → j ≡ deviceKind → m ≡ n →
     from ≡ headerSize → k ≡ linkKind → l ≡ suc n → at ≡ recordAt n → p ++ (ds ++ ls) ≡ saved a

@@ -8,13 +8,13 @@ use lib.Seq.{getD-drop, getD-take}
 use borrow.Author.Tests.{ne-eqb, eq-eqb}
 use Rattle.area.proofs.Rest.{Rest, there, fails, next, ends}
 use Rattle.saved.specs.Saved.{headSize, savedDeviceSize}
-use Rattle.saved.specs.Inner.{choicelessIn}
+use Rattle.saved.specs.Older.{zeroChoiceIn}
 use borrow.Author.Needs.{needs}
-use Rattle.older.proofs.choiceless.Statement.{statement}
-use Rattle.older.proofs.choiceless.Tie as tie
+use Rattle.older.proofs.choices_zero.Statement.{statement}
+use Rattle.older.proofs.choices_zero.Tie as tie
 
 abbrev Inv-loop : tie.InvT-loop
-Inv-loop records n rest₀ left₀ rest left = Rest choicelessIn savedDeviceSize n records left rest
+Inv-loop records n rest₀ left₀ rest left = Rest zeroChoiceIn savedDeviceSize n records left rest
 
 abbrev μ-loop : tie.MeasureT-loop
 μ-loop records n rest₀ left₀ rest left = left
@@ -25,7 +25,7 @@ loop-holds c = record { long = omega arith; same = refl }
 -- the byte that is tested is the body's
 tested : (c : tie.In-loop Inv-loop μ-loop) →
     eqb (getD (c .before .loop .rest .now) 25 0) 0 ≡
-    choicelessIn (take savedDeviceSize (c .before .loop .rest .now))
+    zeroChoiceIn (take savedDeviceSize (c .before .loop .rest .now))
 tested c =
     let r = c .before .loop .rest .now in
     ap (λ x. eqb x 0)
@@ -33,11 +33,11 @@ tested c =
 
 read-fits : tie.Need-shared-slice-read-if1 Inv-loop μ-loop
 read-fits c = let l = c .before .before .loop in
-    omega (arith, there choicelessIn savedDeviceSize _ _ (l .left) (l .rest .now) (l .inv) (omega arith))
+    omega (arith, there zeroChoiceIn savedDeviceSize _ _ (l .left) (l .rest .now) (l .inv) (omega arith))
 
 returns : tie.Need-returns Inv-loop μ-loop
 returns c = let l = c .before .before .before .loop in
-    fails choicelessIn savedDeviceSize _ _ (l .left) (l .rest .now) (eqb (getD (l .rest .now) 25 0) 0) (l .inv)
+    fails zeroChoiceIn savedDeviceSize _ _ (l .left) (l .rest .now) (eqb (getD (l .rest .now) 25 0) 0) (l .inv)
     (omega arith) (tested (c .before .before)) (ap not (ne-eqb (getD (l .rest .now) 25 0) 0 (c .if1 .taken)))
 
 sub-rest : tie.Need-sub-rest Inv-loop μ-loop
@@ -48,16 +48,16 @@ part-rest-start c = omega (arith, c .before .before .before .loop .inv .long)
 
 loop-again : tie.Need-loop-again Inv-loop μ-loop
 loop-again c = let l = c .before .before .before .before .loop in
-    next choicelessIn savedDeviceSize _ _ (l .left) (l .rest .now) (eqb (getD (l .rest .now) 25 0) 0) (l .inv)
+    next zeroChoiceIn savedDeviceSize _ _ (l .left) (l .rest .now) (eqb (getD (l .rest .now) 25 0) 0) (l .inv)
     (omega arith) (tested (c .before .before .before))
     (ap not (eq-eqb (getD (l .rest .now) 25 0) 0 (c .before .if1 .left)))
 
 returns-2 : tie.Need-returns-2 Inv-loop μ-loop
 returns-2 c = let l = c .before .loop in
-    ends choicelessIn savedDeviceSize _ _ (l .left) (l .rest .now) (l .inv) (omega arith)
+    ends zeroChoiceIn savedDeviceSize _ _ (l .left) (l .rest .now) (l .inv) (omega arith)
 
-pub choiceless-spec : {M : Type 1} → statement M
-choiceless-spec =
+pub choices-zero-spec : {M : Type 1} → statement M
+choices-zero-spec =
     tie.close
     (tie.spec
     Inv-loop
