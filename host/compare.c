@@ -74,7 +74,7 @@ enum opening {
 /* A save that is opened: just made, or made before in this history or in another, of as many devices or of others. */
 enum origin { JUST_MADE, THIS_HISTORY, SAME_COUNT, OTHER_COUNT, ORIGINS };
 
-/* What becomes of an old save (02, h): opened, with devices that have data or none, or refused for a choice alone. */
+/* What becomes of an old save (02, h): opened, with devices that have data or none, or refused for a byte 19 alone. */
 enum old_save { OLD_OPENED, END_CHOSEN, END_NOT_CHOSEN, OLD_WITH_CHOICE, OLD_SAVES };
 
 /* A history by its devices: as many as there could be before 02, j, more, or as many as there can be; an accepted
@@ -969,7 +969,7 @@ static struct tried some_tried(const struct save *s)
     return t;
 }
 
-/* An old save that was opened, or refused with 2: for a choice alone if it would be opened as a new one. */
+/* An old save that was opened, or refused with 2: for a byte 19 alone if it would be opened as a new one. */
 static void count_old(struct tried t, uint64_t refusal)
 {
     if (refusal == PIL_UNSOUND) {
@@ -1317,7 +1317,7 @@ static int report_saves(void)
     enough &= report_counts("saves opened: just made (0), of this history (1), of another with as many devices (2), "
                             "with more or fewer (3)", origins, 0, ORIGINS, LEAST);
     enough &= report_counts("old saves opened (0), devices in them with data, for which END is chosen (1), and without "
-                            "(2); old saves refused for a choice alone (3)", old_saves, 0, OLD_SAVES, LEAST);
+                            "(2); old saves refused for a byte 19 alone (3)", old_saves, 0, OLD_SAVES, LEAST);
     enough &= report_counts("no saves: cut (0), longer (1), another byte in a head (2), out of order (3), another "
                             "count (4), of no or too many devices (5), of no edition (6)", spoilings, 0, SPOILINGS,
                             LEAST);

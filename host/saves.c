@@ -226,7 +226,7 @@ static void opened_as_new(void)
     must(memcmp(save, tried, save_len) == 0, "the opened old save is not saved as a new one", 0);
 }
 
-/* The loop's save as it was written before loads took a choice; with a choice in any device it is refused with 2. */
+/* The loop's save as it was written before loads took a choice; with any byte 19 not zero it is refused with 2. */
 static void old_save(void)
 {
     memcpy(tried, save, sizeof tried);
@@ -235,7 +235,7 @@ static void old_save(void)
         tried[choice_at(i)] = 0;
     for (unsigned i = 0; i < devices; i++, done.choices++) {
         tried[choice_at(i)] = PIL_LAST_END;
-        refused_with(PIL_UNSOUND, save_len, choice_at(i), "an old save with a choice is not refused with 2");
+        refused_with(PIL_UNSOUND, save_len, choice_at(i), "an old save with a byte 19 not zero is not refused with 2");
         tried[choice_at(i)] = 0;
     }
     opened_as_new();
@@ -318,7 +318,7 @@ int main(int argc, char **argv)
          && done.choices == choices && done.chosen == chosen, "not all was tried", 0);
     printf("saves: %lu loops with %lu frames through a file of %lu bytes in all; refused with 10: %lu cut, %lu longer, "
            "%lu with another byte in a head, %lu with another count, %lu of no edition; %lu old saves opened and one "
-           "from a file, END chosen for %lu devices in all; refused with 2: %lu old saves with a choice\n", loops,
+           "from a file, END chosen for %lu devices in all; refused with 2: %lu old saves with a byte 19\n", loops,
            done.frames, done.bytes, done.cuts, done.longer, done.heads, done.counts, done.editions, loops, done.chosen,
            done.choices);
     return 0;

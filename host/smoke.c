@@ -270,7 +270,7 @@ static void open_cases(void)
     check("open, edition 2 and a wrong length", opens_with(PIL_SAVE_EDITION, 2, sizeof area - 1, 116), PIL_BAD_SAVE);
     check("open, header byte 2", opens_with(6 + 2, 1, sizeof area, 116), PIL_UNSOUND);
     check("open, choice 2", opens_with(14 + 6 + 19, 2, sizeof area, 116), PIL_UNSOUND);
-    check("open, an old save with a choice", opens_with(PIL_SAVE_EDITION, 0, sizeof area, 116), PIL_UNSOUND);
+    check("open, an old save with a byte 19", opens_with(PIL_SAVE_EDITION, 0, sizeof area, 116), PIL_UNSOUND);
     check("open, a listener over 1", opens_with(14 + 6 + 4, 2, sizeof area, 116), PIL_UNSOUND);
     check("open refused, the area", memcmp(area, fresh_area, sizeof area), 0);
     memset(area, 0xa5, sizeof area);

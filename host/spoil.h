@@ -34,7 +34,7 @@ void spoil_contents(struct save *s);
 
 /* The record of a device in a save, which is well-formed. */
 uint8_t *saved_record(struct save *s, unsigned device);
-/* Makes a new save an old one (02, h). It may have no choices: they are made plain, or left for a refusal. */
+/* Makes a new save an old one (02, h), in which every byte 19 is zero; or they are left for a refusal. */
 void make_old(struct save *s, int with_choices);
 /* Makes an old save the new one that it is opened as. */
 void upgrade(struct save *s);

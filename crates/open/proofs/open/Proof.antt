@@ -5,7 +5,8 @@ use mathlib.Core.Bool.{true}
 use native.Mathlib.Omega.{arith}
 use borrow.Author.Tests.{not-true, not-false}
 use Rattle.area.specs.Sizes.{mostDevices}
-use Rattle.saved.specs.Saved.{formed}
+use Rattle.saved.specs.Saved.{savedCount, formed}
+use Rattle.saved.specs.Inner.{SaveOf}
 use Rattle.saved.proofs.Formed.{is-formed}
 use Rattle.saved.proofs.Tests.{open-bad, open-shape, open-unsound, open-new, open-old}
 use borrow.Author.Needs.{needs}
@@ -23,6 +24,13 @@ returns c =
 right : (c : tie.After-shared-slice-known2) →
     formed mostDevices (c .before .before .before .before .before .args .save .now) ≡ true
 right c = sym (c .before .before .form-right .ensures) ∙ not-false _ (c .before .if1 .left)
+
+-- so it is a save of as many devices as its count says
+of-count : (c : tie.After-shared-slice-known2) →
+    let s = c .before .before .before .before .before .args .save .now in SaveOf (savedCount s) s
+of-count c =
+    let f = is-formed mostDevices _ (right c) in
+    record { count = refl; small = omega (arith, f .few); long = f .long }
 
 save-read : tie.Need-shared-slice-read-n
 save-read c = omega (arith, is-formed mostDevices _ (right c))
@@ -43,9 +51,7 @@ returns-2 c =
     (refl, refl)
 
 bodies-sound-requires : tie.Need-bodies-sound-requires
-bodies-sound-requires c κs =
-    let f = is-formed mostDevices _ (right (c .before .before)) in
-    record { count = refl; small = omega (arith, f .few); long = f .long }
+bodies-sound-requires c κs = of-count (c .before .before)
 
 returns-3 : tie.Need-returns-3
 returns-3 c =
@@ -65,10 +71,7 @@ open-old-requires : tie.Need-open-old-requires
 open-old-requires c κs =
     let i = c .before .before .before .before .before in
     let z = i .before in
-    let f = is-formed mostDevices _ (right (z .before)) in (
-      record { count = refl; small = omega (arith, f .few); long = f .long },
-      omega (arith, i .if2 .left, z .area-size .ensures),
-    )
+    (of-count (z .before), omega (arith, i .if2 .left, z .area-size .ensures))
 
 returns-4 : tie.Need-returns-4
 returns-4 c =
@@ -89,10 +92,7 @@ read-bodies-requires : tie.Need-read-bodies-requires
 read-bodies-requires c κs =
     let i = c .before .before .before .before .before in
     let z = i .before in
-    let f = is-formed mostDevices _ (right (z .before)) in (
-      record { count = refl; small = omega (arith, f .few); long = f .long },
-      omega (arith, i .if2 .left, z .area-size .ensures),
-    )
+    (of-count (z .before), omega (arith, i .if2 .left, z .area-size .ensures))
 
 returns-5 : tie.Need-returns-5
 returns-5 c =
