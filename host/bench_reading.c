@@ -10,7 +10,7 @@ enum { METER, PRINTER, DEVICES, FIRST_ADDRESS = 1, BUDGET = 1 };
 static uint8_t loop[PIL_AREA_LENGTH(DEVICES)];
 static char handed[DEVICES][PIL_MOST_DATA + 1]; /* what each device was handed, as text, and how much that is */
 static unsigned lengths[DEVICES];
-static unsigned stops[PIL_STOP_HANDED + 1];     /* how many drains stopped for each reason */
+static unsigned stops[PIL_STOP_EVENT + 1];      /* how many drains stopped for each reason */
 
 static void accepted(uint8_t refusal, const char *what)
 {
@@ -24,7 +24,6 @@ static void accepted(uint8_t refusal, const char *what)
 static unsigned right_round(unsigned frame)
 {
     struct pil_drained drained;
-    struct pil_taken out;
 
     accepted(pil_put(loop, sizeof loop, frame), "put");
     do {
@@ -36,12 +35,13 @@ static unsigned right_round(unsigned frame)
             if (lengths[drained.device] < PIL_MOST_DATA)
                 handed[drained.device][lengths[drained.device]++] = (char)drained.byte;
             break;
+        case PIL_STOP_EVENT:  /* a device is cleared or triggered: not in this script, see bench_remote.c */
         case PIL_STOP_BUDGET: /* still under way: here a bench has time for other work */
         case PIL_STOP_NO_HOP: /* the frame waits at the tail */
             break;
         }
     } while (drained.reason != PIL_STOP_NO_HOP);
-    out = pil_take(loop, sizeof loop);
+    struct pil_taken out = pil_take(loop, sizeof loop);
     accepted(out.refusal, "take");
     printf("%s %03x -> %s %03x\n", pil_kind_names[pil_decode(frame).kind], frame,
            pil_kind_names[pil_decode(out.frame).kind], out.frame);
@@ -74,7 +74,7 @@ int main(void)
     printf("the talk ended with %s: meter %s, %u of %u bytes sent\n", pil_kind_names[pil_decode(frame).kind],
            pil_talker_texts[meter[PIL_RECORD_TALKER]], meter[PIL_RECORD_SENT], meter[PIL_RECORD_DATA_LENGTH]);
     printf("the printer was handed \"%s\", the meter \"%s\"\n", handed[PRINTER], handed[METER]);
-    for (unsigned reason = 0; reason <= PIL_STOP_HANDED; reason++)
+    for (unsigned reason = 0; reason <= PIL_STOP_EVENT; reason++)
         printf("drains that stopped by \"%s\": %u\n", pil_stop_texts[reason], stops[reason]);
     return 0;
 }

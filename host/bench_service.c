@@ -16,7 +16,7 @@ static void accepted(uint8_t refusal, const char *what)
     exit(1);
 }
 
-/* Sends a frame right round. No device listens, so no drain stops before the frame is at the tail. */
+/* Sends a frame right round. No device listens and no DCL is sent, so no drain stops before it is at the tail. */
 static unsigned right_round(unsigned frame)
 {
     accepted(pil_put(loop, sizeof loop, frame), "put");

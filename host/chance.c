@@ -207,6 +207,19 @@ static unsigned single_command(void)
     return code(kinds[below(sizeof kinds)]);
 }
 
+/* The commands of 02, d, and IFC: for a device that listens mostly one of those that need this, else REN more often
+   than NRE, which undoes the others. */
+static unsigned remote_command(const uint8_t *r)
+{
+    static const uint8_t addressed[] = {PIL_KIND_GTL, PIL_KIND_SDC, PIL_KIND_GET};
+    static const uint8_t all[] = {PIL_KIND_REN, PIL_KIND_REN, PIL_KIND_NRE, PIL_KIND_LLO, PIL_KIND_LLO, PIL_KIND_DCL,
+                                  PIL_KIND_GTL, PIL_KIND_SDC, PIL_KIND_GET, PIL_KIND_IFC};
+
+    if (r[PIL_RECORD_LISTENER] && !one_in(4))
+        return code(addressed[below(sizeof addressed)]);
+    return code(all[below(sizeof all)]);
+}
+
 unsigned chance_frame(const uint8_t *area, unsigned taken)
 {
     const uint8_t *r = chance_talker_record(area);
@@ -216,6 +229,8 @@ unsigned chance_frame(const uint8_t *area, unsigned taken)
         return awaited_frame(r);
     if (choice < 30 && taken < code(PIL_KIND_NUL))
         return returned_byte(taken);
+    if (choice < 15)
+        return remote_command(chance_record(area));
     if (choice < 50)
         return code(PIL_KIND_TAD) + (one_in(5) ? below(31) : address_in_use(area));
     if (choice < 62)
@@ -226,12 +241,14 @@ unsigned chance_frame(const uint8_t *area, unsigned taken)
         return code(PIL_KIND_AAD) + chance_address();
     if (choice < 83)
         return code(PIL_KIND_NRD);
-    if (choice < 88)
+    if (choice < 87)
         return code(PIL_KIND_IDY) + below(0x200);
-    if (choice < 93)
+    if (choice < 91)
         return below(0x400);
-    if (choice < 98)
+    if (choice < 95)
         return single_command();
+    if (choice < 98)
+        return remote_command(chance_record(area));
     return below(PIL_FRAMES);
 }
 
@@ -303,6 +320,8 @@ static void chance_sound_record(uint8_t *r)
         r[PIL_RECORD_SENT] = (uint8_t)chance_sent(r[PIL_RECORD_DATA_LENGTH], 0);
         chance_bytes(r + PIL_RECORD_DATA, r[PIL_RECORD_DATA_LENGTH]);
     }
+    r[PIL_RECORD_REMOTE] = (uint8_t)below(PIL_REMOTE_LOCKED + 1);
+    r[PIL_RECORD_ENABLED] = (uint8_t)below(2);
     r[PIL_RECORD_END] = (uint8_t)below(2);
     chance_reply(r);
 }

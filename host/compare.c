@@ -30,14 +30,17 @@ enum {
     DEFAULT_CALLS = 1150000,
     FULL_RUN = 1000000, /* calls from which on the counts below are demanded */
     LEAST = 100, /* how often each refusal must be given, a byte come back, a message be encoded, hops be owed, data be
-                    loaded and end, and loops be saved and opened in each way */
+                    loaded and end, devices be cleared and triggered, and loops be saved and opened in each way */
+    LEAST_MOVES = 10, /* how often each message must come to a device in each state of remote and local */
     LONG = 8,    /* a loop of so many devices or more is a long one */
     MOST_OWED = 2 * PIL_MOST_DEVICES * (PIL_MOST_DEVICES + 1), /* hops */
     FORMER_MOST = 15, /* devices of the longest loop before 02, j */
     KEPT = 8,    /* saves that are kept for later */
     REFUSALS = PIL_BAD_SAVE + 1,
     TALKERS = PIL_TALKER_ACCESSORY + 1,
-    REASONS = PIL_STOP_HANDED + 1
+    REMOTES = PIL_REMOTE_LOCKED + 1,
+    STANDINGS = 2 * REMOTES, /* states of remote and local, while not enabled and while enabled */
+    REASONS = PIL_STOP_EVENT + 1
 };
 
 /* How a byte comes back to the device that sent it: the control bits in which it differs, or a data bit. */
@@ -54,6 +57,41 @@ enum { LOAD_REFUSALS = sizeof load_refusals };
 
 /* A choice that is stored over the other one, by a load of bytes or of none. */
 enum storing { PLAIN_WITH_BYTES, END_WITH_BYTES, PLAIN_WITH_NONE, END_WITH_NONE, STORINGS };
+
+/* What moves a device between remote and local (02, d), and what might be taken for it: its own LAD where it lacks
+   ability 1, the LAD of another, GTL where it is no listener, and IFC. */
+enum mover {
+    BY_REN, BY_NRE, BY_OWN_LAD, BY_UNABLE_LAD, BY_OTHER_LAD, BY_LLO, BY_GTL, BY_UNADDRESSED_GTL, BY_IFC, BY_KEY, MOVERS
+};
+
+static const char *const movers[MOVERS] = {
+    "REN", "NRE", "its own LAD", "its own LAD without ability 1", "another's LAD", "LLO", "GTL at a listener",
+    "GTL at no listener", "IFC", "the key"
+};
+
+/* How a device stands after it, by how it stood: the states of pil.h, and 4 more while enabled. All else leaves it. */
+static const uint8_t standing_after[MOVERS + 1][STANDINGS] = {
+    [BY_REN] = {4, 5, 6, 7, 4, 5, 6, 7},
+    [BY_NRE] = {0, 0, 0, 0, 0, 0, 0, 0},
+    [BY_OWN_LAD] = {0, 1, 2, 3, 5, 5, 7, 7},
+    [BY_UNABLE_LAD] = {0, 1, 2, 3, 4, 5, 6, 7},
+    [BY_OTHER_LAD] = {0, 1, 2, 3, 4, 5, 6, 7},
+    [BY_LLO] = {0, 1, 2, 3, 6, 7, 6, 7},
+    [BY_GTL] = {0, 0, 2, 2, 4, 4, 6, 6},
+    [BY_UNADDRESSED_GTL] = {0, 1, 2, 3, 4, 5, 6, 7},
+    [BY_IFC] = {0, 1, 2, 3, 4, 5, 6, 7},
+    [BY_KEY] = {0, 0, 2, 3, 4, 4, 6, 7},
+    [MOVERS] = {0, 1, 2, 3, 4, 5, 6, 7},
+};
+
+/* The commands that clear or trigger, at a listener and at any other device, and the event that the hop reports. */
+enum acting { DCL_LISTENER, DCL_OTHER, SDC_LISTENER, SDC_OTHER, GET_LISTENER, GET_OTHER, ACTINGS };
+
+static const uint8_t event_of[ACTINGS + 1] = {PIL_EVENT_CLEAR, PIL_EVENT_CLEAR, PIL_EVENT_CLEAR, PIL_EVENT_NONE,
+                                              PIL_EVENT_TRIGGER, PIL_EVENT_NONE, PIL_EVENT_NONE};
+
+/* A drain that stopped on an event: a clear or a trigger, with budget left or spent by that hop. */
+enum event_stop { CLEAR_LEFT, TRIGGER_LEFT, CLEAR_SPENT, TRIGGER_SPENT, EVENT_STOPS };
 
 /* How an encoding ends: accepted, or refused for one cause alone or for several. */
 enum encoding { WITH_C1_0, WITH_C1_1, BAD_KIND, BAD_OFFSET, C1_OVER_1, C1_WITHOUT_ONE, SEVERAL_CAUSES, ENCODINGS };
@@ -81,10 +119,12 @@ enum old_save { OLD_OPENED, END_CHOSEN, END_NOT_CHOSEN, OLD_WITH_CHOICE, OLD_SAV
    opening of more than there could be; a set-up of one too many; and a length that is wrong but in its lowest byte. */
 enum size { FORMER, MORE, MOST, MORE_OPENED, TOO_MANY, LOW_BYTE_RIGHT, SIZES };
 
-enum which { SET_UP, PUT, HOP, TAKE, LOAD, LOAD_END, STATUS, WISH, DRAIN, OWED, SAVE, OPEN, DECODE, ENCODE, WHICH };
+enum which {
+    SET_UP, PUT, HOP, TAKE, LOAD, LOAD_END, STATUS, WISH, KEY, DRAIN, OWED, SAVE, OPEN, DECODE, ENCODE, WHICH
+};
 
-static const char *const names[WHICH] = {"set_up", "put", "hop", "take", "load", "load_end", "status", "wish", "drain",
-                                         "owed", "save", "open", "decode", "encode"};
+static const char *const names[WHICH] = {"set_up", "put", "hop", "take", "load", "load_end", "status", "wish", "key",
+                                         "drain", "owed", "save", "open", "decode", "encode"};
 
 /* A call with its arguments; the bytes of set_up, load, load_end and open stand in input. */
 struct call {
@@ -99,7 +139,7 @@ struct call {
 
 /* Every field that any call answers. */
 struct answer {
-    uint64_t refusal, frame, handed, byte, end, hops, reason, device, kind, offset, c1;
+    uint64_t refusal, frame, handed, byte, end, event, hops, reason, device, kind, offset, c1;
 };
 
 static uint8_t rooms[2][ROOM], before[ROOM];
@@ -110,7 +150,8 @@ static const struct call *under_way;
 static uint64_t refusals[REFUSALS], talkers[TALKERS], reasons[REASONS], returned[RETURNED], encodings[ENCODINGS];
 static uint64_t owings[OWINGS], savings[SAVINGS], openings[OPENINGS], origins[ORIGINS], spoilings[SPOILINGS];
 static uint64_t loads[ASKINGS][LOAD_REFUSALS], storings[STORINGS], lasts[PIL_LAST_END + 1], old_saves[OLD_SAVES];
-static uint64_t calls_of[WHICH], sizes[SIZES], head_bits, editions;
+static uint64_t keys[REFUSALS], moves[MOVERS + 1][STANDINGS], standings[STANDINGS], actings[ACTINGS + 1];
+static uint64_t event_stops[EVENT_STOPS], calls_of[WHICH], sizes[SIZES], head_bits, editions;
 
 /* The history under way: its number, its number of devices, the frame taken last, and whether one frame, many or all
    that the links can hold are under way. */
@@ -149,7 +190,8 @@ static void set_rooms(const uint8_t *bytes)
 
 static struct answer hopped_answer(struct pil_hopped h)
 {
-    return (struct answer){.refusal = h.refusal, .frame = h.frame, .handed = h.handed, .byte = h.byte, .end = h.end};
+    return (struct answer){.refusal = h.refusal, .frame = h.frame, .handed = h.handed, .byte = h.byte, .end = h.end,
+                           .event = h.event};
 }
 
 static struct answer drained_answer(struct pil_drained d)
@@ -197,6 +239,7 @@ static struct answer make(int side, const struct call *c)
     case LOAD_END: return refusal_answer(of->load_end(area, c->area_len, c->number, input, c->input_len));
     case STATUS: return refusal_answer(of->status(area, c->area_len, c->number, (uint8_t)c->second));
     case WISH: return refusal_answer(of->wish(area, c->area_len, c->number, c->second));
+    case KEY: return refusal_answer(of->key(area, c->area_len, c->number));
     case DRAIN: return drained_answer(of->drain(area, c->area_len, c->number));
     case OWED: return owing_answer(of->owed(area, c->area_len));
     case SAVE: return refusal_answer(of->save(area, c->area_len, save_of(side), c->saved_len));
@@ -211,10 +254,10 @@ static struct answer make(int side, const struct call *c)
 static void print_answer(int side, const struct answer *a)
 {
     printf("  %-5s answers refusal %" PRIu64 " frame %03" PRIx64 " handed %" PRIu64 " byte %02" PRIx64
-           " end %" PRIu64 " hops %" PRIu64 " reason %" PRIu64 " device %" PRIu64 " kind %" PRIu64 " offset %" PRIu64
-           " C1 %" PRIu64 "\n",
-           both[side].name, a->refusal, a->frame, a->handed, a->byte, a->end, a->hops, a->reason, a->device, a->kind,
-           a->offset, a->c1);
+           " end %" PRIu64 " event %" PRIu64 " hops %" PRIu64 " reason %" PRIu64 " device %" PRIu64 " kind %" PRIu64
+           " offset %" PRIu64 " C1 %" PRIu64 "\n",
+           both[side].name, a->refusal, a->frame, a->handed, a->byte, a->end, a->event, a->hops, a->reason, a->device,
+           a->kind, a->offset, a->c1);
 }
 
 static void print_bytes(const char *what, const uint8_t *bytes, size_t length)
@@ -282,6 +325,51 @@ static void catch_signals(void)
 
 /* One call, on both sides. */
 
+/* The frame that the device has taken at its hop. */
+static unsigned frame_taken(uint64_t device)
+{
+    const uint8_t *area = before + GUARD;
+
+    return frame_at(area + PIL_LINK_AT(area[PIL_HEADER_DEVICES], device) + PIL_LINK_FRAMES);
+}
+
+/* Remote state and enable flag of a sound record, as one number. */
+static unsigned standing(const uint8_t *r)
+{
+    return r[PIL_RECORD_REMOTE] + (unsigned)REMOTES * r[PIL_RECORD_ENABLED];
+}
+
+/* What the frame is to the device; MOVERS if it has nothing to do with remote and local. */
+static enum mover mover(const uint8_t *r, unsigned frame)
+{
+    const unsigned first_lad = 0x420, last_lad = 0x43e;
+
+    if (frame >= first_lad && frame <= last_lad) {
+        if (frame - first_lad != r[PIL_RECORD_ADDRESS])
+            return BY_OTHER_LAD;
+        return r[PIL_RECORD_ABILITIES] & PIL_ABILITY_LISTEN ? BY_OWN_LAD : BY_UNABLE_LAD;
+    }
+    switch (frame) {
+    case 0x401: return r[PIL_RECORD_LISTENER] ? BY_GTL : BY_UNADDRESSED_GTL;
+    case 0x411: return BY_LLO;
+    case 0x490: return BY_IFC;
+    case 0x492: return BY_REN;
+    case 0x493: return BY_NRE;
+    default: return MOVERS;
+    }
+}
+
+/* ACTINGS if it neither clears nor triggers. */
+static enum acting acting(const uint8_t *r, unsigned frame)
+{
+    switch (frame) {
+    case 0x404: return r[PIL_RECORD_LISTENER] ? SDC_LISTENER : SDC_OTHER;
+    case 0x408: return r[PIL_RECORD_LISTENER] ? GET_LISTENER : GET_OTHER;
+    case 0x414: return r[PIL_RECORD_LISTENER] ? DCL_LISTENER : DCL_OTHER;
+    default: return ACTINGS;
+    }
+}
+
 /* Whether the hop sent a byte of the device's data, and whether all of it is sent now. */
 static int data_sent(unsigned device)
 {
@@ -305,12 +393,14 @@ static int is_end(const struct answer *hopped)
 /* The device hopped: how it stands, how its own byte came back if it took one, and how its last went out. */
 static void count_hop(unsigned device, const struct answer *hopped)
 {
-    const uint8_t *area = before + GUARD;
-    const uint8_t *r = area + PIL_RECORD_AT(device);
-    unsigned frame = frame_at(area + PIL_LINK_AT(area[PIL_HEADER_DEVICES], device) + PIL_LINK_FRAMES);
+    const uint8_t *r = before + GUARD + PIL_RECORD_AT(device);
+    unsigned frame = frame_taken(device);
     unsigned other = frame ^ frame_at(r + PIL_RECORD_LAST);
 
     talkers[area_of(PIL)[PIL_RECORD_AT(device) + PIL_RECORD_TALKER]]++;
+    standings[standing(area_of(PIL) + PIL_RECORD_AT(device))]++;
+    moves[mover(r, frame)][standing(r)]++;
+    actings[acting(r, frame)]++;
     if (r[PIL_RECORD_TALKER] >= PIL_TALKER_DATA && frame < PIL_C3)
         returned[other & PIL_DATA_BITS ? OTHER_DATA : other / PIL_C1]++;
     if (data_sent(device) && all_sent(device))
@@ -369,12 +459,28 @@ static enum saving saving(const struct call *c, const struct answer *a)
     return a->refusal == PIL_ACCEPTED ? SAVED : a->refusal == PIL_SHAPE ? SAVED_SHAPE : SAVED_UNSOUND;
 }
 
+static void count_key(const struct call *c, const struct answer *a)
+{
+    keys[a->refusal]++;
+    if (a->refusal == PIL_ACCEPTED)
+        moves[BY_KEY][standing(before + GUARD + PIL_RECORD_AT(c->number))]++;
+}
+
+static void count_drain(const struct call *c, const struct answer *a)
+{
+    reasons[a->reason]++;
+    if (a->reason == PIL_STOP_EVENT)
+        event_stops[(a->hops == c->number ? CLEAR_SPENT : CLEAR_LEFT) + (a->byte == PIL_EVENT_TRIGGER)]++;
+}
+
 static void count_answer(const struct call *c, const struct answer *a)
 {
     calls_of[c->which]++;
     refusals[a->refusal]++;
     if (c->which == DRAIN && a->refusal == PIL_ACCEPTED)
-        reasons[a->reason]++;
+        count_drain(c, a);
+    if (c->which == KEY)
+        count_key(c, a);
     if (c->which == HOP && a->refusal == PIL_ACCEPTED)
         count_hop((unsigned)c->number, a);
     if (is_load(c))
@@ -415,6 +521,41 @@ static int choice_obeyed(const struct call *c, const struct answer *a)
     if (a->refusal == PIL_ACCEPTED && c->which == HOP && data_sent(device))
         return is_end(a) == (all_sent(device) && area_of(PIL)[choice] == PIL_LAST_END);
     return 1;
+}
+
+static int is_of_device(const struct call *c)
+{
+    return is_load(c) || c->which == HOP || c->which == STATUS || c->which == WISH || c->which == KEY;
+}
+
+/* A hop and the key move the device between remote and local as the table says, and no other local call does (02, d):
+   no model is needed to see this. */
+static int moved_by_table(const struct call *c, const struct answer *a)
+{
+    const uint8_t *was;
+    enum mover by = MOVERS;
+
+    if (a->refusal != PIL_ACCEPTED || !is_of_device(c))
+        return 1;
+    was = before + GUARD + PIL_RECORD_AT(c->number);
+    if (c->which == HOP || c->which == KEY)
+        by = c->which == KEY ? BY_KEY : mover(was, frame_taken(c->number));
+    return standing(area_of(PIL) + PIL_RECORD_AT(c->number)) == standing_after[by][standing(was)];
+}
+
+/* An event is reported just at the hop of a command that clears or triggers, and alters no byte of the record (02, d):
+   no model is needed to see this. */
+static int event_by_table(const struct call *c, const struct answer *a)
+{
+    const uint8_t *was;
+    enum acting by;
+
+    if (c->which != HOP || a->refusal != PIL_ACCEPTED)
+        return a->event == PIL_EVENT_NONE;
+    was = before + GUARD + PIL_RECORD_AT(c->number);
+    by = acting(was, frame_taken(c->number));
+    return a->event == event_of[by]
+        && (by == ACTINGS || memcmp(area_of(PIL) + PIL_RECORD_AT(c->number), was, PIL_RECORD_LENGTH) == 0);
 }
 
 /* The most that so many devices can owe: 02, k. */
@@ -528,6 +669,8 @@ static struct answer compare_call(const struct call *c)
         differs("the items, the bytes to load or the save to open were altered", c, answers);
     if (!choice_obeyed(c, &answers[PIL]))
         differs("the choice how the last byte goes out is not obeyed", c, answers);
+    if (!moved_by_table(c, &answers[PIL]) || !event_by_table(c, &answers[PIL]))
+        differs("not moved between remote and local, or no event told, as the tables say", c, answers);
     if (c->which != DECODE && c->which != ENCODE)
         compare_owed(c, answers);
     under_way = NULL;
@@ -627,11 +770,13 @@ static struct call local_call(void)
 {
     unsigned device = one_in(4) ? some_sender() : one_in(2) ? some_talker(PIL_TALKER_ADDRESSED) : below(n);
 
-    switch (below(5)) {
+    switch (below(7)) {
     case 0:
     case 1: return load_call(device);
     case 2: return (struct call){.which = STATUS, .number = device, .second = below(256)};
     case 3: return (struct call){.which = WISH, .number = device, .second = one_in(2) ? 1 : wild_number(0)};
+    case 4:
+    case 5: return (struct call){.which = KEY, .number = below(n)};
     default: return (struct call){.which = WISH, .number = device, .second = below(2)};
     }
 }
@@ -687,7 +832,7 @@ static struct call sensible_call(void)
 {
     struct call c;
 
-    if (one_in(8))
+    if (one_in(6))
         c = local_call();
     else if (one_in(12))
         c = drain_call(some_budget());
@@ -793,7 +938,7 @@ static size_t damaged_place(void)
     case 2: return link + below(PIL_LINK_FRAMES);
     case 3: return record + below(PIL_RECORD_LENGTH);
     case 4: return record + PIL_RECORD_END;
-    default: return record + below(PIL_RECORD_MORE_ZEROS + 1);
+    default: return record + below(PIL_RECORD_ZEROS + 1);
     }
 }
 
@@ -810,10 +955,25 @@ static void damage_frame(void)
     set_both(place + 1, value >> 8);
 }
 
+/* Remote state or enable flag: any value, or one near the last that is sound. */
+static void damage_standing(void)
+{
+    size_t record = PIL_RECORD_AT(below(n));
+
+    if (one_in(2))
+        set_both(record + PIL_RECORD_REMOTE, one_in(2) ? below(REMOTES + 2) : below(256));
+    else
+        set_both(record + PIL_RECORD_ENABLED, one_in(2) ? below(4) : below(256));
+}
+
 static void damage(void)
 {
     if (one_in(6)) {
         damage_frame();
+        return;
+    }
+    if (one_in(6)) {
+        damage_standing();
         return;
     }
     for (unsigned times = 1 + below(3); times > 0; times--) {
@@ -1124,10 +1284,28 @@ static void go_on(void)
         taken = (unsigned)a.frame;
 }
 
+/* Gives some devices any remote state and enable flag, and makes listeners of those that can be: all of it is sound,
+   and a bench may write to the area. */
+static void give_standings(void)
+{
+    for (unsigned i = 0; i < n; i++) {
+        size_t record = PIL_RECORD_AT(i);
+
+        if (one_in(2))
+            continue;
+        set_both(record + PIL_RECORD_REMOTE, below(REMOTES));
+        set_both(record + PIL_RECORD_ENABLED, below(2));
+        if (area_of(MODEL)[record + PIL_RECORD_ABILITIES] & PIL_ABILITY_LISTEN)
+            set_both(record + PIL_RECORD_LISTENER, 1);
+    }
+}
+
 static void history(void)
 {
     begin();
     for (unsigned left = 20 + below(300); left > 0 && made < wanted; left--) {
+        if (one_in(20))
+            give_standings();
         switch (below(22)) {
         case 0: wild_number_call(); break;
         case 1: wrong_length_call(); break;
@@ -1247,6 +1425,82 @@ static void compare_wide_codes(void)
             compare_with_wide_number((bits < 64 ? (uint64_t)1 << bits : 0) + small[i]);
 }
 
+/* Remote and local (02, d): each state under each command, at each kind of device, and each value of the two bytes. */
+
+enum { OWN_ADDRESS = 5, COMMANDS = 0x400, COMMANDS_END = 0x500, BYTES = 256 };
+
+/* A listener, one that could be, and two that cannot listen. */
+static const struct { uint8_t abilities, listener; } devices_tried[] = {
+    {0xff, 1}, {0xff, 0}, {0xff - PIL_ABILITY_LISTEN - PIL_ABILITY_UNADDRESS, 0}, {0, 0}
+};
+
+enum { DEVICES_TRIED = sizeof devices_tried / sizeof *devices_tried };
+
+/* Both areas become a loop of one such device, with the frame before it. */
+static void lend_device(unsigned tried, unsigned remote, unsigned enabled, unsigned frame)
+{
+    uint8_t item[PIL_ITEM_LENGTH] = {devices_tried[tried].abilities, OWN_ADDRESS};
+    uint8_t *r = area_of(PIL) + PIL_RECORD_AT(0);
+
+    n = 1;
+    if (model_set_up(area_of(PIL), PIL_AREA_LENGTH(n), item, sizeof item) != PIL_ACCEPTED
+        || model_put(area_of(PIL), PIL_AREA_LENGTH(n), frame) != PIL_ACCEPTED)
+        wrong_material("a device or a command");
+    r[PIL_RECORD_LISTENER] = devices_tried[tried].listener;
+    r[PIL_RECORD_REMOTE] = (uint8_t)remote;
+    r[PIL_RECORD_ENABLED] = (uint8_t)enabled;
+    memcpy(rooms[MODEL], rooms[PIL], ROOM);
+}
+
+/* A hop of the frame, and a drain with just that budget; gives the event that both told, 0 if they differ. */
+static uint64_t compare_command(unsigned tried, unsigned stood, unsigned frame)
+{
+    struct call hop = hop_call(0), drain = drain_call(1);
+    struct answer hopped, drained;
+
+    hop.area_len = drain.area_len = PIL_AREA_LENGTH(1);
+    lend_device(tried, stood % REMOTES, stood / REMOTES, frame);
+    hopped = compare_call(&hop);
+    lend_device(tried, stood % REMOTES, stood / REMOTES, frame);
+    drained = compare_call(&drain);
+    return drained.reason == PIL_STOP_EVENT && drained.end == 0 && drained.byte == hopped.event ? hopped.event : 0;
+}
+
+/* The key, over any two bytes; gives whether it was accepted. */
+static int compare_key(unsigned remote, unsigned enabled)
+{
+    struct call key = {.which = KEY, .area_len = PIL_AREA_LENGTH(1)};
+    uint64_t refusal;
+
+    lend_device(0, remote, enabled, COMMANDS);
+    refusal = compare_call(&key).refusal;
+    if (refusal != PIL_ACCEPTED && refusal != PIL_UNSOUND)
+        wrong_material("the key otherwise than with 2");
+    return refusal == PIL_ACCEPTED;
+}
+
+/* DCL clears every device, SDC and GET act on the listener; eight pairs of bytes are sound. */
+static int compare_remote(void)
+{
+    uint64_t events[PIL_EVENT_TRIGGER + 1] = {0}, accepted = 0;
+    int all;
+
+    for (unsigned tried = 0; tried < DEVICES_TRIED; tried++)
+        for (unsigned stood = 0; stood < STANDINGS; stood++)
+            for (unsigned frame = COMMANDS; frame < COMMANDS_END; frame++)
+                events[compare_command(tried, stood, frame)]++;
+    for (unsigned remote = 0; remote < BYTES; remote++)
+        for (unsigned enabled = 0; enabled < BYTES; enabled++)
+            accepted += (unsigned)compare_key(remote, enabled);
+    all = events[PIL_EVENT_CLEAR] == STANDINGS * (DEVICES_TRIED + 1) && events[PIL_EVENT_TRIGGER] == STANDINGS
+        && accepted == STANDINGS;
+    printf("remote and local: %d states at %d devices under %d commands each, by hop and by drain: %" PRIu64 " clears, "
+           "%" PRIu64 " triggers; of %d pairs of bytes 17 and 18 the key took %" PRIu64 " and refused the others with "
+           "2%s\n", STANDINGS, DEVICES_TRIED, COMMANDS_END - COMMANDS, events[PIL_EVENT_CLEAR],
+           events[PIL_EVENT_TRIGGER], BYTES * BYTES, accepted, all ? "" : "  NOT ALL");
+    return all;
+}
+
 static void compare_table(void)
 {
 #if HAVE_KINDS
@@ -1290,6 +1544,24 @@ static int report_loads(void)
     enough &= report_counts("choices stored over the other one: plain (0), END (1), with no bytes plain (2), END (3)",
                             storings, 0, STORINGS, LEAST);
     enough &= report_counts("last bytes sent at a hop: plain (0), END (1)", lasts, 0, PIL_LAST_END + 1, LEAST);
+    return enough;
+}
+
+static int report_remote(void)
+{
+    int enough = report_counts("keys pressed: accepted (0), refused with 1, 2, 3", keys, 0, PIL_NO_DEVICE + 1, LEAST);
+
+    enough &= report_counts("remote and local after a hop: local (0), remote (1), each of them locked (2, 3), and each "
+                            "of these while enabled (4 to 7)", standings, 0, STANDINGS, LEAST);
+    for (unsigned by = 0; by < MOVERS; by++) {
+        printf("  from each of these, ");
+        enough &= report_counts(movers[by], moves[by], 0, STANDINGS, LEAST_MOVES);
+    }
+    enough &= report_counts("clears by DCL at a listener (0), at another device (1), by SDC at a listener (2), none at "
+                            "another (3); triggers by GET at a listener (4), none at another (5)", actings, 0, ACTINGS,
+                            LEAST);
+    enough &= report_counts("drains stopped by a clear (0) or trigger (1) with budget left, with it spent (2, 3)",
+                            event_stops, 0, EVENT_STOPS, LEAST);
     return enough;
 }
 
@@ -1339,6 +1611,7 @@ static int report(void)
     enough &= report_counts("bytes come back as sent (0), with another C1 (1), C2 (2), both (3), data (4)", returned, 0,
                             RETURNED, LEAST);
     enough &= report_loads();
+    enough &= report_remote();
     enough &= report_counts("encodings accepted with C1 0 (0), with C1 1 (1), refused for the kind (2), the offset "
                             "(3), a C1 over 1 (4), a C1 of 1 on a kind without one (5), several causes (6)", encodings,
                             0, ENCODINGS, LEAST);
@@ -1373,6 +1646,7 @@ int main(int argc, char **argv)
     compare_wide_codes();
     enough = report();
     compare_table();
+    enough &= compare_remote();
     enough &= order_histories(seed, wanted / 500);
     return enough || wanted < FULL_RUN ? 0 : 2;
 }

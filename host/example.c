@@ -24,7 +24,8 @@ static void accepted(uint8_t refusal, const char *what)
     exit(1);
 }
 
-/* Sends a frame right round and gives the frame that comes out. No meter listens, so no drain stops on a byte. */
+/* Sends a frame right round and gives the frame that comes out. No meter listens, so no drain stops on a byte, and none
+   of the frames sent here clears a device: no drain stops on that either. */
 static unsigned right_round(unsigned frame)
 {
     struct pil_taken taken;

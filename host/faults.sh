@@ -1,8 +1,8 @@
 #!/bin/sh
 # Shows that the comparison can fail: with each deliberate fault in the model it must find a difference within twenty
 # thousand calls, for each of three seeds, and without a fault none. So must saves, run on the model in place of libpil,
-# with each fault of writing or reading a save. Use: faults.sh FAULTS SAVE_FAULTS DIRECTORY OLD_SAVE [RUNNER..], faults
-# being numbers.
+# with each fault of writing, reading or judging a save. Use: faults.sh FAULTS SAVE_FAULTS DIRECTORY OLD_SAVE
+# [RUNNER..], faults being numbers.
 faults=$1 save_faults=$2 dir=$3 old_save=$4
 shift 4
 calls=20000

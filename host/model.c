@@ -217,9 +217,10 @@ static int ranges_hold(const uint8_t *r)
         && r[PIL_RECORD_ID_LENGTH] <= PIL_MOST_ID
         && r[PIL_RECORD_DATA_LENGTH] <= PIL_MOST_DATA
         && r[PIL_RECORD_SENT] <= r[PIL_RECORD_DATA_LENGTH]
-        && all_zero(r, PIL_RECORD_ZEROS, PIL_RECORD_END)
+        && r[PIL_RECORD_REMOTE] <= PIL_REMOTE_LOCKED + (MODEL_FAULT == 57)
+        && r[PIL_RECORD_ENABLED] <= 1 + (MODEL_FAULT == 58)
         && r[PIL_RECORD_END] <= PIL_LAST_END + (MODEL_FAULT == 31)
-        && all_zero(r, PIL_RECORD_MORE_ZEROS, PIL_RECORD_ID);
+        && all_zero(r, PIL_RECORD_ZEROS, PIL_RECORD_ID);
 }
 
 static int address_sound(const uint8_t *r)
@@ -251,6 +252,10 @@ static int states_have_abilities(const uint8_t *r)
     if (r[PIL_RECORD_SERVICE] != PIL_SERVICE_NONE && !(abilities & PIL_ABILITY_SERVICE))
         return 0;
     if (r[PIL_RECORD_DATA_LENGTH] > 0 && !(abilities & PIL_ABILITY_DATA))
+        return 0;
+    if (MODEL_FAULT == 70 && r[PIL_RECORD_REMOTE] != PIL_LOCAL && !(abilities & PIL_ABILITY_LISTEN))
+        return 0;
+    if (MODEL_FAULT == 71 && r[PIL_RECORD_REMOTE] != PIL_LOCAL && !r[PIL_RECORD_ENABLED])
         return 0;
     return r[PIL_RECORD_TALKER] == PIL_TALKER_IDLE || (abilities & abilities_for(r[PIL_RECORD_TALKER]));
 }
@@ -393,8 +398,93 @@ static unsigned with_service_bit(const uint8_t *r, unsigned frame)
     return frame;
 }
 
+/* Remote and local: 02, d, and 001, 2.17. Who has control and whether the key is locked are two things, and byte 17
+   holds the pair. */
+
+static int is_remote(const uint8_t *r)
+{
+    return r[PIL_RECORD_REMOTE] == PIL_REMOTE || r[PIL_RECORD_REMOTE] == PIL_REMOTE_LOCKED;
+}
+
+static int is_locked(const uint8_t *r)
+{
+    return r[PIL_RECORD_REMOTE] == PIL_LOCAL_LOCKED || r[PIL_RECORD_REMOTE] == PIL_REMOTE_LOCKED;
+}
+
+static void control(uint8_t *r, int remote, int locked)
+{
+    if (locked)
+        r[PIL_RECORD_REMOTE] = remote ? PIL_REMOTE_LOCKED : PIL_LOCAL_LOCKED;
+    else
+        r[PIL_RECORD_REMOTE] = remote ? PIL_REMOTE : PIL_LOCAL;
+}
+
+/* A LAD: the device's own (2.17: MLA), with ability 1 and while enabled, gives the loop control. */
+static void listen_address_for_control(uint8_t *r, unsigned address)
+{
+    int own = address == r[PIL_RECORD_ADDRESS] || MODEL_FAULT == 55;
+    int able = (r[PIL_RECORD_ABILITIES] & PIL_ABILITY_LISTEN) || MODEL_FAULT == 56;
+
+    if (own && able && (r[PIL_RECORD_ENABLED] || MODEL_FAULT == 42))
+        control(r, 1, is_locked(r) && MODEL_FAULT != 65);
+}
+
+static void remote_enable(uint8_t *r)
+{
+    r[PIL_RECORD_ENABLED] = 1;
+    if (MODEL_FAULT == 72 && r[PIL_RECORD_LISTENER])
+        control(r, 1, is_locked(r));
+}
+
+/* To local and unlocked. 2.17 tells only that the flag goes, and its figure is lost: 02, d, decides. */
+static void not_remote_enable(uint8_t *r)
+{
+    if (MODEL_FAULT != 46)
+        r[PIL_RECORD_ENABLED] = 0;
+    control(r, 0, MODEL_FAULT == 45 && is_locked(r));
+}
+
+static void local_lockout(uint8_t *r)
+{
+    if ((r[PIL_RECORD_ENABLED] || MODEL_FAULT == 41) && (is_remote(r) || MODEL_FAULT != 64))
+        control(r, is_remote(r), 1);
+}
+
+static void go_to_local(uint8_t *r)
+{
+    if ((r[PIL_RECORD_LISTENER] || MODEL_FAULT == 43) && (r[PIL_RECORD_ENABLED] || MODEL_FAULT != 63))
+        control(r, 0, is_locked(r) && MODEL_FAULT != 44);
+}
+
+/* The panel key (2.17: rtl), which the lock puts out of use. */
+static void press_key(uint8_t *r)
+{
+    if (is_remote(r) && (!is_locked(r) || MODEL_FAULT == 47) && (r[PIL_RECORD_ENABLED] || MODEL_FAULT != 62))
+        control(r, 0, is_locked(r));
+    if (MODEL_FAULT == 61 && !is_remote(r))
+        control(r, 0, 0);
+}
+
+/* What a hop reports of a frame: 02, d, and 001, 2.10 and 2.11. DCL is for all devices, SDC and GET are for those
+   addressed to listen. */
+static unsigned event_of(const uint8_t *r, unsigned kind)
+{
+    int listener = r[PIL_RECORD_LISTENER];
+
+    switch (kind) {
+    case PIL_KIND_DCL: return listener || MODEL_FAULT != 51 ? PIL_EVENT_CLEAR : PIL_EVENT_NONE;
+    case PIL_KIND_SDC: return listener || MODEL_FAULT == 50 ? PIL_EVENT_CLEAR : PIL_EVENT_NONE;
+    case PIL_KIND_GET:
+        if (!listener && MODEL_FAULT != 60)
+            return PIL_EVENT_NONE;
+        return MODEL_FAULT == 49 ? PIL_EVENT_CLEAR : PIL_EVENT_TRIGGER;
+    default: return PIL_EVENT_NONE;
+    }
+}
+
 static void listen_address(uint8_t *r, unsigned address)
 {
+    listen_address_for_control(r, address);
     if (address != r[PIL_RECORD_ADDRESS] || !(r[PIL_RECORD_ABILITIES] & PIL_ABILITY_LISTEN))
         return;
     r[PIL_RECORD_LISTENER] = 1;
@@ -413,10 +503,15 @@ static void talk_address(uint8_t *r, unsigned address)
         r[PIL_RECORD_LISTENER] = 0;
 }
 
+/* Of remote and local it changes nothing. */
 static void interface_clear(uint8_t *r)
 {
     r[PIL_RECORD_LISTENER] = 0;
     stop_sending(r, PIL_TALKER_IDLE);
+    if (MODEL_FAULT == 48)
+        control(r, 0, is_locked(r));
+    if (MODEL_FAULT == 66)
+        r[PIL_RECORD_ENABLED] = 0;
 }
 
 static void auto_address_unconfigure(uint8_t *r)
@@ -543,6 +638,10 @@ static void obey_command(uint8_t *r, unsigned kind, unsigned frame)
     case PIL_KIND_UNT: stop_sending(r, PIL_TALKER_IDLE); break;
     case PIL_KIND_IFC: interface_clear(r); break;
     case PIL_KIND_AAU: auto_address_unconfigure(r); break;
+    case PIL_KIND_REN: remote_enable(r); break;
+    case PIL_KIND_NRE: not_remote_enable(r); break;
+    case PIL_KIND_LLO: local_lockout(r); break;
+    case PIL_KIND_GTL: go_to_local(r); break;
     default: break;
     }
 }
@@ -570,9 +669,17 @@ static unsigned command_ready_or_identify(uint8_t *r, unsigned kind, unsigned fr
 
 static struct pil_hopped device_takes(uint8_t *r, unsigned frame)
 {
+    struct pil_hopped hopped = {0};
+    unsigned kind;
+
     if (frame <= messages[PIL_KIND_END].last)
         return data_or_end(r, frame);
-    return (struct pil_hopped){.frame = (uint16_t)command_ready_or_identify(r, kind_of(frame), frame)};
+    kind = kind_of(frame);
+    hopped.event = (uint8_t)event_of(r, kind);
+    if (MODEL_FAULT == 67 && hopped.event == PIL_EVENT_CLEAR)
+        r[PIL_RECORD_LISTENER] = 0;
+    hopped.frame = (uint16_t)command_ready_or_identify(r, kind, frame);
+    return hopped;
 }
 
 /* The calls: 01, the part of that name. Conditions are asked in the order of the refusals' numbers. */
@@ -672,15 +779,23 @@ struct pil_taken model_take(uint8_t *area, size_t area_len)
     return (struct pil_taken){.frame = (uint16_t)link_take_oldest(tail)};
 }
 
-/* Refusals 1, 2, 3 and 7 of a local call that needs an ability. */
-static uint8_t local_refusal(const uint8_t *area, size_t area_len, uint64_t device, unsigned ability)
+/* Refusals 1, 2 and 3 of a local call. */
+static uint8_t device_refusal(const uint8_t *area, size_t area_len, uint64_t device)
 {
     uint8_t refusal = shape_and_soundness(area, area_len);
 
     if (refusal)
         return refusal;
-    if (device >= area[PIL_HEADER_DEVICES])
-        return PIL_NO_DEVICE;
+    return device >= area[PIL_HEADER_DEVICES] ? PIL_NO_DEVICE : PIL_ACCEPTED;
+}
+
+/* And 7, where it needs an ability. */
+static uint8_t local_refusal(const uint8_t *area, size_t area_len, uint64_t device, unsigned ability)
+{
+    uint8_t refusal = device_refusal(area, area_len, device);
+
+    if (refusal)
+        return refusal;
     return area[PIL_RECORD_AT(device) + PIL_RECORD_ABILITIES] & ability ? PIL_ACCEPTED : PIL_NO_ABILITY;
 }
 
@@ -750,6 +865,17 @@ uint8_t model_wish(uint8_t *area, size_t area_len, uint64_t device, uint64_t wis
     return PIL_ACCEPTED;
 }
 
+/* The key does nothing in most states, and is accepted in all of them. */
+uint8_t model_key(uint8_t *area, size_t area_len, uint64_t device)
+{
+    uint8_t refusal = MODEL_FAULT == 68 ? local_refusal(area, area_len, device, PIL_ABILITY_LISTEN)
+                                        : device_refusal(area, area_len, device);
+
+    if (!refusal)
+        press_key(area + PIL_RECORD_AT(device));
+    return refusal;
+}
+
 /* The highest-numbered device that can hop, -1 if none can. */
 static int highest_that_can_hop(uint8_t *area)
 {
@@ -758,6 +884,25 @@ static int highest_that_can_hop(uint8_t *area)
     while (device >= 0 && (link_empty(link_of(area, (size_t)device)) || link_full(link_of(area, (size_t)device + 1))))
         device--;
     return device;
+}
+
+/* A drain stops after a hop that handed a byte or, asked for after that, reported an event: gives 1 if it did. The
+   event is the byte, and there is no end bit (02, d). */
+static int stops_after(struct pil_drained *drained, int device, const struct pil_hopped *hopped, uint64_t budget)
+{
+    if (hopped->handed) {
+        drained->reason = PIL_STOP_HANDED;
+        drained->byte = hopped->byte;
+        drained->end = hopped->end;
+    } else if (hopped->event && MODEL_FAULT != 52 && (drained->hops < budget || MODEL_FAULT != 59)) {
+        drained->reason = MODEL_FAULT == 54 ? PIL_STOP_HANDED : PIL_STOP_EVENT;
+        drained->byte = MODEL_FAULT == 69 ? 0 : hopped->event;
+        drained->end = MODEL_FAULT == 53;
+    } else {
+        return 0;
+    }
+    drained->device = (uint8_t)device;
+    return 1;
 }
 
 struct pil_drained model_drain(uint8_t *area, size_t area_len, uint64_t budget)
@@ -774,13 +919,8 @@ struct pil_drained model_drain(uint8_t *area, size_t area_len, uint64_t budget)
         }
         hopped = hop(area, (unsigned)device);
         drained.hops++;
-        if (hopped.handed) {
-            drained.reason = PIL_STOP_HANDED;
-            drained.device = (uint8_t)device;
-            drained.byte = hopped.byte;
-            drained.end = hopped.end;
+        if (stops_after(&drained, device, &hopped, budget))
             break;
-        }
     }
     return drained;
 }

@@ -16,11 +16,11 @@ enum {
     MOST_FRAMES = PIL_LINK_DEPTH * (PIL_MOST_DEVICES + 1) + MOST_PUTS, /* in the links at first, and put */
     MOST_LOCALS = 120,
     LEAST = 100, /* how many histories must begin from an opening, as many of them of an old save, and how often one
-                    must hold a save and its opening */
+                    must hold a save and its opening, a clear, a trigger, and a key that takes a device to local */
     LEAST_LONGEST = 50 /* how many must have as many devices as there can be */
 };
 
-enum which { LOAD, STATUS, WISH };
+enum which { LOAD, STATUS, WISH, KEY, WHICH };
 
 /* A local call, and how many hops its device had made before it. */
 struct local {
@@ -40,11 +40,14 @@ struct loop {
     uint32_t owed_at_first;
     uint16_t put[MOST_PUTS], out[MOST_FRAMES];
     unsigned puts, outs;
-    uint16_t handed[PIL_MOST_DEVICES][MOST_FRAMES]; /* the byte, plus 256 with the end bit */
-    unsigned handeds[PIL_MOST_DEVICES];
+    uint16_t told[PIL_MOST_DEVICES][MOST_FRAMES]; /* in their order, bytes handed (and PIL_C2 with the end bit) and
+                                                     events (and PIL_C3) */
+    unsigned tolds[PIL_MOST_DEVICES];
+    unsigned handed, events[PIL_EVENT_TRIGGER + 1]; /* of all devices */
     uint64_t hops;
     struct local locals[MOST_LOCALS];
     unsigned accepted;
+    unsigned released; /* keys that took a device to local */
     unsigned reopened; /* times that it was saved and opened */
 };
 
@@ -87,7 +90,15 @@ static int all_empty(const struct loop *l)
 
 static void note_handed(struct loop *l, unsigned device, unsigned byte, unsigned end)
 {
-    l->handed[device][l->handeds[device]++] = (uint16_t)(byte | end << 8);
+    l->told[device][l->tolds[device]++] = (uint16_t)(byte | (end ? PIL_C2 : 0));
+    l->handed++;
+}
+
+static void note_event(struct loop *l, unsigned device, unsigned event)
+{
+    must(event == PIL_EVENT_CLEAR || event == PIL_EVENT_TRIGGER, "an event is neither clear nor trigger");
+    l->told[device][l->tolds[device]++] = (uint16_t)(PIL_C3 | event);
+    l->events[event]++;
 }
 
 static int put(struct loop *l, unsigned frame)
@@ -107,6 +118,8 @@ static int hop(struct loop *l, unsigned device)
     l->hops++;
     if (hopped.handed)
         note_handed(l, device, hopped.byte, hopped.end);
+    if (hopped.event)
+        note_event(l, device, hopped.event);
     return 1;
 }
 
@@ -127,6 +140,17 @@ static void drain(struct loop *l, uint64_t budget)
     l->hops += drained.hops;
     if (drained.reason == PIL_STOP_HANDED)
         note_handed(l, drained.device, drained.byte, drained.end);
+    if (drained.reason == PIL_STOP_EVENT)
+        note_event(l, drained.device, drained.byte);
+}
+
+static int key(struct loop *l, unsigned device)
+{
+    const uint8_t *remote = l->area + PIL_RECORD_AT(device) + PIL_RECORD_REMOTE;
+    uint8_t was = *remote, refusal = pil_key(l->area, l->area_len, device);
+
+    l->released += was == PIL_REMOTE && *remote == PIL_LOCAL;
+    return refusal == PIL_ACCEPTED;
 }
 
 static int local(struct loop *l, const struct local *c)
@@ -134,6 +158,7 @@ static int local(struct loop *l, const struct local *c)
     switch (c->which) {
     case LOAD: return pil_load(l->area, l->area_len, c->device, c->bytes, c->length, c->value) == PIL_ACCEPTED;
     case STATUS: return pil_status(l->area, l->area_len, c->device, (uint8_t)c->value) == PIL_ACCEPTED;
+    case KEY: return key(l, c->device);
     default: return pil_wish(l->area, l->area_len, c->device, c->value) == PIL_ACCEPTED;
     }
 }
@@ -163,7 +188,7 @@ static void random_local(struct loop *l)
 
     if (l->accepted == MOST_LOCALS)
         return;
-    c->which = (enum which)below(3);
+    c->which = (enum which)below(WHICH);
     c->device = below(l->n);
     c->before = hops_made(l, c->device);
     c->value = c->which == LOAD ? below(2) : one_in(3) ? 0 : chance();
@@ -298,8 +323,9 @@ static void must_be_equal(void)
 {
     must(memcmp(mixed.area, right_round.area, sizeof mixed.area) == 0, "the areas");
     must(mixed.outs == right_round.outs && memcmp(mixed.out, right_round.out, sizeof mixed.out) == 0, "the frames out");
-    must(memcmp(mixed.handeds, right_round.handeds, sizeof mixed.handeds) == 0, "the number of bytes handed");
-    must(memcmp(mixed.handed, right_round.handed, sizeof mixed.handed) == 0, "the bytes handed");
+    must(memcmp(mixed.tolds, right_round.tolds, sizeof mixed.tolds) == 0, "the number of bytes handed and events");
+    must(memcmp(mixed.told, right_round.told, sizeof mixed.told) == 0, "the bytes handed and events");
+    must(mixed.released == right_round.released, "the keys that took a device to local");
     must(mixed.hops == hops_in_all(&mixed), "the hops are not those owed at first and frames put times devices");
     must_owe(&mixed);
     must(right_round.hops == mixed.hops, "the hops");
@@ -325,30 +351,48 @@ static unsigned one_history(int by_opening, int old)
     return at_first;
 }
 
+/* What all histories come to. */
+static struct {
+    uint64_t opened, old, at_first, longest, puts, reopened, locals, released, hops, handed, clears, triggers;
+} sums;
+
+static void add_up(void)
+{
+    sums.longest += mixed.n == PIL_MOST_DEVICES;
+    sums.puts += mixed.puts;
+    sums.reopened += mixed.reopened;
+    sums.locals += mixed.accepted;
+    sums.released += mixed.released;
+    sums.hops += mixed.hops;
+    sums.handed += mixed.handed;
+    sums.clears += mixed.events[PIL_EVENT_CLEAR];
+    sums.triggers += mixed.events[PIL_EVENT_TRIGGER];
+}
+
+static int reached_enough(void)
+{
+    return sums.opened >= LEAST && sums.old >= LEAST && sums.at_first >= LEAST && sums.longest >= LEAST_LONGEST
+        && sums.reopened >= LEAST && sums.released >= LEAST && sums.clears >= LEAST && sums.triggers >= LEAST;
+}
+
 int order_histories(uint64_t seed, uint64_t histories)
 {
-    uint64_t opened = 0, old = 0, at_first = 0, longest = 0, puts = 0, reopened = 0, locals = 0, hops = 0, handed = 0;
-
     seed_now = seed;
     for (history_now = 1; history_now <= histories; history_now++) {
         int by_opening = history_now % 2 == 0, of_old = history_now % 4 == 0;
 
         chance_seed(seed + (history_now << 32));
-        at_first += one_history(by_opening, of_old);
-        opened += (unsigned)by_opening;
-        old += (unsigned)of_old;
-        longest += mixed.n == PIL_MOST_DEVICES;
-        puts += mixed.puts;
-        reopened += mixed.reopened;
-        locals += mixed.accepted;
-        hops += mixed.hops;
-        for (unsigned device = 0; device < mixed.n; device++)
-            handed += mixed.handeds[device];
+        sums.at_first += one_history(by_opening, of_old);
+        sums.opened += (unsigned)by_opening;
+        sums.old += (unsigned)of_old;
+        add_up();
     }
     printf("order: %" PRIu64 " histories equal to their right-round ones, %" PRIu64 " of them from an opening, %" PRIu64
            " of these of an old save, with %" PRIu64 " frames in the links, %" PRIu64 " of %d devices; %" PRIu64
-           " frames put, %" PRIu64 " times saved and opened, %" PRIu64 " accepted local calls, %" PRIu64 " hops, %"
-           PRIu64 " bytes handed\n", histories, opened, old, at_first, longest, PIL_MOST_DEVICES, puts, reopened,
-           locals, hops, handed);
-    return opened >= LEAST && old >= LEAST && at_first >= LEAST && longest >= LEAST_LONGEST && reopened >= LEAST;
+           " frames put, %" PRIu64 " times saved and opened, %" PRIu64 " accepted local calls, %" PRIu64
+           " keys among them to local, %" PRIu64 " hops, %" PRIu64 " bytes handed, %" PRIu64 " clears, %" PRIu64
+           " triggers%s\n", histories, sums.opened, sums.old, sums.at_first, sums.longest, PIL_MOST_DEVICES, sums.puts,
+           sums.reopened, sums.locals, sums.released, sums.hops, sums.handed, sums.clears, sums.triggers,
+           reached_enough() ? "" : "  TOO FEW");
+    return reached_enough();
 }

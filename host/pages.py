@@ -5,8 +5,8 @@ Every block of C is compiled, as C and as C++, and run, and has to print the nex
 this kind of machine are run as they stand, in a folder that looks like the repository's root to them; `make list` has
 to print its listing, and a bench is built from what `make install` leaves under an empty prefix. Every link leads to
 a file, and a link to a definition to the file that has it. docs/RULES.md has every kind of the message table once, with
-its codes, pil.h and pil_names.h name them alike, and have as many refusals, stops and states. Use: pages.py CC CXX
-[RUNNER..], a runner where the machine is not x86-64."""
+its codes, pil.h and pil_names.h name them alike, and have as many refusals, stops, states and events. Use: pages.py CC
+CXX [RUNNER..], a runner where the machine is not x86-64."""
 import os, pathlib, re, shutil, subprocess, sys
 
 root = pathlib.Path(__file__).resolve().parent.parent
@@ -71,7 +71,8 @@ def counts():
     """Each array of pil_names.h has a name for every number that pil.h has, and no more."""
     header, names = (root / 'host' / 'pil.h').read_text(), (root / 'host' / 'pil_names.h').read_text()
     for array, first in (('refusal_texts', 'PIL_ACCEPTED'), ('stop_texts', 'PIL_STOP_NO_HOP'),
-                         ('talker_texts', 'PIL_TALKER_IDLE'), ('service_texts', 'PIL_SERVICE_NONE')):
+                         ('talker_texts', 'PIL_TALKER_IDLE'), ('service_texts', 'PIL_SERVICE_NONE'),
+                         ('remote_texts', 'PIL_LOCAL'), ('event_texts', 'PIL_EVENT_NONE')):
         numbers = next(enum for enum in re.findall(r'^enum \{(.*?)^\};', header, re.M | re.S) if first in enum)
         listed = re.search(r'pil_%s\[\d+\] = \{(.*?)\};' % array, names, re.S)[1]
         named, numbered = re.findall(r'"([^"]+)"', listed), re.findall(r'PIL_\w+ = \d+', numbers)

@@ -1,7 +1,7 @@
 /* The C interface of the loop model: the calls of libpil.a, the numbers they answer, and the layout of the area
    that a bench lends to them. Every number of this file but the version is fixed by the papers 01 and 02; what devices
-   do with frames is told in docs/RULES.md of the repository, and pil_names.h has names of kinds, refusals, stops and
-   states. For C99 and C++.
+   do with frames is told in docs/RULES.md of the repository, and pil_names.h has names of kinds, refusals, stops,
+   states and events. For C99 and C++.
 
    A call allocates nothing and keeps nothing outside the area that it is lent: a copy of the area's bytes is a copy of
    the loop, and different areas may be used by different threads at once (one area by one thread at a time). An area
@@ -13,8 +13,9 @@
 #include <stddef.h>
 #include <stdint.h>
 
-/* The version: the first number rises where a bench has to be changed, the second where something is added. */
-#define PIL_VERSION_MAJOR 3
+/* The version: the first number rises where a bench has to be changed or compiled anew, the second where something is
+   added. */
+#define PIL_VERSION_MAJOR 4
 #define PIL_VERSION_MINOR 0
 #define PIL_VERSION_PATCH 0
 #define PIL_VERSION (PIL_VERSION_MAJOR * 10000 + PIL_VERSION_MINOR * 100 + PIL_VERSION_PATCH)
@@ -52,8 +53,18 @@ enum {
     PIL_STOP_NO_HOP = 0, /* no device can hop. Then the links before the tail are empty, or the tail is full and frames
                             wait for it: take some, and drain again */
     PIL_STOP_BUDGET = 1, /* the budget is spent, and a hop is still possible */
-    PIL_STOP_HANDED = 2  /* the last hop handed a byte; the answer names device, byte and end bit. The frame has gone on
+    PIL_STOP_HANDED = 2, /* the last hop handed a byte; the answer names device, byte and end bit. The frame has gone on
                             into the next link all the same */
+    PIL_STOP_EVENT = 3   /* the last hop reported a clear or trigger; the answer names the device and, as the byte,
+                            which of them. The frame has gone on here too */
+};
+
+/* What a hop reports besides a byte handed. It alters nothing in the record: what a device does when it is cleared or
+   triggered is the bench's part. */
+enum {
+    PIL_EVENT_NONE = 0,   /* nothing of the kind */
+    PIL_EVENT_CLEAR = 1,  /* the device is cleared: at every DCL, at SDC if it is a listener */
+    PIL_EVENT_TRIGGER = 2 /* the device is triggered: at GET if it is a listener */
 };
 
 /* Kinds of frame: the messages of the loop, by their codes. The number of a message, as 0-30, is its offset. */
@@ -191,9 +202,10 @@ enum {
     PIL_RECORD_SENT = 13,        /* bytes of the data already sent, a damaged one among them */
     PIL_RECORD_LAST = 14,        /* while sending, the reply's last byte as the frame sent: two bytes, little-endian */
     PIL_RECORD_REPLY_SENT = 16,  /* bytes of a status or ID reply already sent */
-    PIL_RECORD_ZEROS = 17,       /* two zero bytes */
+    PIL_RECORD_REMOTE = 17,      /* remote and local, 0-3 */
+    PIL_RECORD_ENABLED = 18,     /* 1 if remote control is enabled, by REN and till NRE, else 0 */
     PIL_RECORD_END = 19,         /* how the last byte of the data goes out: 0 plain, 1 END */
-    PIL_RECORD_MORE_ZEROS = 20,  /* four zero bytes */
+    PIL_RECORD_ZEROS = 20,       /* four zero bytes */
     PIL_RECORD_ID = 24,          /* eight bytes: the device ID, zero past its length */
     PIL_RECORD_DATA = 32         /* thirty-two bytes: the data, zero past its length */
 };
@@ -243,6 +255,15 @@ enum {
     PIL_SERVICE_POLLED = 2  /* has sent its status since it asked */
 };
 
+/* Remote and local: a record's byte 17. A device hears and talks alike in all of these; what it obeys is the bench's
+   part. */
+enum {
+    PIL_LOCAL = 0,        /* the panel has control, as at power-on */
+    PIL_REMOTE = 1,       /* the loop has control, after REN and the device's own LAD; the panel key takes it back */
+    PIL_LOCAL_LOCKED = 2, /* the panel has control, and once remote its key will do nothing */
+    PIL_REMOTE_LOCKED = 3 /* the loop has control, and the panel key does nothing. LLO locks, and NRE unlocks */
+};
+
 /* How the last byte of the data goes out: a load's choice, and a record's byte 19. */
 enum {
     PIL_LAST_PLAIN = 0, /* as a DAB, like the bytes before it */
@@ -261,7 +282,8 @@ enum {
    - the reply bytes sent are not 1 while status or accessory ID is sent, not 1 to the ID's length while the ID is sent,
      or not 0 otherwise;
    - NRD is noted, or a last frame kept, outside the talker states 2 to 5.
-   Either choice for the last byte is sound in every record, also where there is no data or no ability for it.
+   Either choice for the last byte is sound in every record, also where there is no data or no ability for it; and so is
+   every state of remote and local, with the enable flag 0 or 1 and whatever the abilities.
    So damage that breaks a rule gives 2, and any change of byte 0 gives 1: no other count of devices fits the area's
    length. Damage that leaves a sound area is not seen. A record is judged by itself, so that one copied from another
    sound area may take a device's place (example.c exchanges a meter so).
@@ -275,6 +297,7 @@ struct pil_hopped {
     uint8_t handed;  /* 1 if the device was handed a byte */
     uint8_t byte;    /* the byte handed, else 0 */
     uint8_t end;     /* its end bit, else 0 */
+    uint8_t event;   /* whether the device is cleared or triggered: PIL_EVENT_NONE to PIL_EVENT_TRIGGER */
 };
 
 /* What a take answers. */
@@ -288,8 +311,8 @@ struct pil_drained {
     uint32_t hops;   /* hops made */
     uint8_t refusal; /* 0 if accepted */
     uint8_t reason;  /* why it stopped; 0 if refused */
-    uint8_t device;  /* for PIL_STOP_HANDED the device, else 0 */
-    uint8_t byte;    /* for PIL_STOP_HANDED the byte handed, else 0 */
+    uint8_t device;  /* for PIL_STOP_HANDED and PIL_STOP_EVENT the device, else 0 */
+    uint8_t byte;    /* for PIL_STOP_HANDED the byte handed, for PIL_STOP_EVENT the event, else 0 */
     uint8_t end;     /* for PIL_STOP_HANDED its end bit, else 0 */
 };
 
@@ -341,9 +364,13 @@ uint8_t pil_status(uint8_t *area, size_t area_len, uint64_t device, uint8_t stat
 /* Has the device ask for service (any wish but 0), or no longer (0). Any wish but 0 leaves a device that asks already,
    or was polled since it asked, as it is: to ask a second time after a poll, wish 0 and then 1. Gives 1, 2, 3, 7. */
 uint8_t pil_wish(uint8_t *area, size_t area_len, uint64_t device, uint64_t wish);
+/* Presses the device's panel key: PIL_REMOTE becomes PIL_LOCAL, enabled or not. In any other state it does nothing, and
+   is accepted all the same. It needs no ability. Gives 1, 2, 3. */
+uint8_t pil_key(uint8_t *area, size_t area_len, uint64_t device);
 /* Hops the highest-numbered device that can hop, again and again, at most budget times. A hop that hands a byte ends it
-   at once, with PIL_STOP_HANDED even if the budget is spent; otherwise, before each hop, PIL_STOP_NO_HOP if none is
-   possible, else PIL_STOP_BUDGET if the budget is spent. So budget 0 makes no hop and tells whether one is possible.
+   at once, with PIL_STOP_HANDED, and one that reports a clear or trigger with PIL_STOP_EVENT, both even if the budget
+   is spent; otherwise, before each hop, PIL_STOP_NO_HOP if none is possible, else PIL_STOP_BUDGET if the budget is
+   spent. So budget 0 makes no hop and tells whether one is possible, and DCL stops a drain once at every device.
    A budget of what pil_owed answers always suffices, and so does 2n(n + 1). The frames that devices send are not
    answered: they lie in the links, and come out at the tail. Gives 1, 2. */
 struct pil_drained pil_drain(uint8_t *area, size_t area_len, uint64_t budget);
@@ -356,7 +383,8 @@ struct pil_owing pil_owed(const uint8_t *area, size_t area_len);
 /* Writes the loop into the output as its save, over whatever that held, and leaves the area as it was. The output's
    length is PIL_SAVE_LENGTH(n) for n devices, no more and no less; any other gives 1, where the area is unsound too. A
    sound area has one save, of the edition now, and no other has the same. A libpil before version 3 refuses to open a
-   save of this edition, with 2. Refused, pil_save leaves the output as it was. Gives 1, 2. */
+   save of this edition, with 2, and version 3 one with a device that is enabled or not PIL_LOCAL. Refused, pil_save
+   leaves the output as it was. Gives 1, 2. */
 uint8_t pil_save(const uint8_t *area, size_t area_len, uint8_t *save, size_t save_len);
 /* Writes the saved loop into the area, whatever that held: every byte of it is then that of the area saved, and the
    frames in its links go on from where they were. The area's length is PIL_AREA_LENGTH(n) for the saved number of

@@ -65,11 +65,12 @@ static const char *const pil_refusal_texts[11] = {
     "bad save: no saved loop, or not all of one",
 };
 
-/* Why a drain stopped, PIL_STOP_NO_HOP to PIL_STOP_HANDED. */
-static const char *const pil_stop_texts[3] = {
+/* Why a drain stopped, PIL_STOP_NO_HOP to PIL_STOP_EVENT. */
+static const char *const pil_stop_texts[4] = {
     "no hop possible",
     "budget spent",
     "byte handed",
+    "clear or trigger",
 };
 
 /* Talker states, PIL_TALKER_IDLE to PIL_TALKER_ACCESSORY. */
@@ -87,6 +88,21 @@ static const char *const pil_service_texts[3] = {
     "none",
     "asking",
     "polled",
+};
+
+/* Remote and local, PIL_LOCAL to PIL_REMOTE_LOCKED. */
+static const char *const pil_remote_texts[4] = {
+    "local",
+    "remote",
+    "local locked",
+    "remote locked",
+};
+
+/* Events, PIL_EVENT_NONE to PIL_EVENT_TRIGGER. */
+static const char *const pil_event_texts[3] = {
+    "none",
+    "clear",
+    "trigger",
 };
 
 #endif

@@ -1,6 +1,6 @@
-/* Puts loops away in a file and opens them again, opens old saves, and tries to open what is no save, through libpil.a
-   as a bench calls it. Use: saves FILE OLD; FILE is written and removed, OLD is old_save.bin. Prints a line of counts;
-   exit 1: a difference, 3: wrong use. */
+/* Puts loops away in a file and opens them again, opens old saves, tries all of bytes 17 and 18 and what is no save,
+   through libpil.a as a bench calls it. Use: saves FILE OLD; FILE is written and removed, OLD is old_save.bin. Prints a
+   line of counts; exit 1: a difference, 3: wrong use. */
 #include "pil.h"
 
 #include <stdio.h>
@@ -12,7 +12,10 @@ enum {
     SAVE_ROOM = PIL_SAVE_LENGTH(PIL_MOST_DEVICES) + 1, /* a byte more than the longest */
     COUNT_AT = PIL_SAVE_HEAD_LENGTH + PIL_HEADER_DEVICES,
     OTHER_VALUES = 255, /* that a byte could have */
-    NO_EDITIONS = 254   /* of its values are no edition */
+    NO_EDITIONS = 254,  /* of its values are no edition */
+    STATES = 4,         /* of remote and local: so many values of byte 17 are sound, */
+    FLAGS = 2,          /* and so many of byte 18 */
+    NOT_SOUND = 2 * (OTHER_VALUES + 1) - STATES - FLAGS /* the others of both bytes */
 };
 
 static unsigned devices;
@@ -20,7 +23,9 @@ static uint8_t area[AREA_ROOM], in_hand[AREA_ROOM]; /* the loop saved, and the l
 static uint8_t lent[AREA_ROOM], tried[SAVE_ROOM];   /* what openings are lent */
 static uint8_t save[SAVE_ROOM];
 static size_t area_len, save_len;
-static struct { unsigned long frames, bytes, cuts, longer, heads, counts, editions, chosen, choices; } done; /* tried */
+static struct { /* what was tried */
+    unsigned long frames, bytes, cuts, longer, heads, counts, editions, chosen, choices, standings, not_sound;
+} done;
 
 static void must(int holds, const char *what, size_t place)
 {
@@ -47,6 +52,15 @@ static void load(unsigned device, uint64_t end)
     must(pil_load(area, area_len, device, (const uint8_t *)"12", 2, end) == PIL_ACCEPTED, "the load is refused", 0);
 }
 
+/* Every state of remote and local in turn, not enabled and enabled; the first device is enabled and remote. */
+static void set_remote(void)
+{
+    for (unsigned i = 0; i < devices; i++) {
+        area[PIL_RECORD_AT(i) + PIL_RECORD_REMOTE] = (uint8_t)((PIL_REMOTE + i) % STATES);
+        area[PIL_RECORD_AT(i) + PIL_RECORD_ENABLED] = (uint8_t)((1 + i / STATES) % FLAGS);
+    }
+}
+
 /* Puts frames and lets every device hop, till each link holds some and the tail is full. The last device has data that
    ends plain, the first, which talks, data that ends in an END. */
 static void make_loop(void)
@@ -63,6 +77,7 @@ static void make_loop(void)
             pil_hop(area, area_len, device);
     }
     must(pil_put(area, area_len, frames[put % 7]) == PIL_ACCEPTED, "a put is refused", 0);
+    set_remote();
     for (unsigned link = 0; link <= devices; link++) {
         size_t count = PIL_LINK_AT(devices, link) + PIL_LINK_COUNT;
 
@@ -173,14 +188,6 @@ static void no_saves(void)
     done.editions += other_values_from(PIL_EDITION_NOW + 1, PIL_SAVE_EDITION, "a save of no edition is opened");
 }
 
-/* Old saves (02, h). */
-
-/* The place of a device's choice in a save. */
-static size_t choice_at(unsigned device)
-{
-    return PIL_SAVE_RECORD_AT(device) + PIL_SAVE_HEAD_LENGTH + PIL_RECORD_END;
-}
-
 /* Whether the area's bytes are the bodies of what was tried. */
 static int is_held_by_tried(const uint8_t *loop)
 {
@@ -195,6 +202,55 @@ static int is_held_by_tried(const uint8_t *loop)
         head += PIL_SAVE_HEAD_LENGTH + length;
     }
     return head == save_len;
+}
+
+/* Remote and local (02, d). */
+
+/* The save with one device in each state, not enabled and enabled: it opens to an area of these bytes. */
+static void sound_standings(size_t remote_at, size_t enabled_at)
+{
+    for (unsigned remote = 0; remote < STATES; remote++)
+        for (unsigned enabled = 0; enabled < FLAGS; enabled++, done.standings++) {
+            tried[remote_at] = (uint8_t)remote;
+            tried[enabled_at] = (uint8_t)enabled;
+            memcpy(lent, in_hand, area_len);
+            must(pil_open(lent, area_len, tried, save_len) == PIL_ACCEPTED, "a byte 17 or 18 is refused", remote_at);
+            tried[PIL_SAVE_EDITION] = 0; /* as in an area */
+            must(is_held_by_tried(lent), "a byte 17 or 18 is opened as another", remote_at);
+            tried[PIL_SAVE_EDITION] = PIL_EDITION_NOW;
+        }
+    tried[remote_at] = save[remote_at];
+    tried[enabled_at] = save[enabled_at];
+}
+
+/* Every value of the byte from the first one that is not sound. */
+static void not_sound_from(unsigned first, size_t place)
+{
+    for (unsigned value = first; value <= UINT8_MAX; value++, done.not_sound++) {
+        tried[place] = (uint8_t)value;
+        refused_with(PIL_UNSOUND, save_len, place, "a save with a byte 17 or 18 not sound is not refused with 2");
+    }
+    tried[place] = save[place];
+}
+
+static void remote_bytes(void)
+{
+    memcpy(tried, save, sizeof tried);
+    for (unsigned i = 0; i < devices; i++) {
+        size_t record = PIL_SAVE_RECORD_AT(i) + PIL_SAVE_HEAD_LENGTH;
+
+        sound_standings(record + PIL_RECORD_REMOTE, record + PIL_RECORD_ENABLED);
+        not_sound_from(STATES, record + PIL_RECORD_REMOTE);
+        not_sound_from(FLAGS, record + PIL_RECORD_ENABLED);
+    }
+}
+
+/* Old saves (02, h). */
+
+/* The place of a device's choice in a save. */
+static size_t choice_at(unsigned device)
+{
+    return PIL_SAVE_RECORD_AT(device) + PIL_SAVE_HEAD_LENGTH + PIL_RECORD_END;
 }
 
 /* Chooses END in what was tried, for each device with data, and gives how many these are. */
@@ -295,7 +351,7 @@ static void old_file(const char *path)
 int main(int argc, char **argv)
 {
     static const unsigned all[] = {1, 2, 7, PIL_MOST_DEVICES};
-    unsigned long bytes = 0, heads = 0, choices = 0, chosen = OLD_WITH_DATA, loops = sizeof all / sizeof *all;
+    unsigned long bytes = 0, heads = 0, records = 0, chosen = OLD_WITH_DATA, loops = sizeof all / sizeof *all;
 
     if (argc != 3) {
         fprintf(stderr, "use: saves FILE OLD\n");
@@ -306,20 +362,23 @@ int main(int argc, char **argv)
         make_loop();
         through_file(argv[1]);
         no_saves();
+        remote_bytes();
         old_save();
         bytes += 30 + 86 * devices;
         heads += 2 * devices + 2;
-        choices += devices;
+        records += devices;
         chosen += devices > 1 ? 2 : 1; /* the first device and the last have data */
     }
     old_file(argv[2]);
     must(done.bytes == bytes && done.cuts == bytes && done.longer == loops && done.counts == loops * OTHER_VALUES
          && done.heads == heads * PIL_SAVE_HEAD_LENGTH * OTHER_VALUES && done.editions == loops * NO_EDITIONS
-         && done.choices == choices && done.chosen == chosen, "not all was tried", 0);
+         && done.choices == records && done.chosen == chosen && done.standings == records * STATES * FLAGS
+         && done.not_sound == records * NOT_SOUND, "not all was tried", 0);
     printf("saves: %lu loops with %lu frames through a file of %lu bytes in all; refused with 10: %lu cut, %lu longer, "
            "%lu with another byte in a head, %lu with another count, %lu of no edition; %lu old saves opened and one "
-           "from a file, END chosen for %lu devices in all; refused with 2: %lu old saves with a byte 19\n", loops,
-           done.frames, done.bytes, done.cuts, done.longer, done.heads, done.counts, done.editions, loops, done.chosen,
-           done.choices);
+           "from a file, END chosen for %lu devices in all; refused with 2: %lu old saves with a byte 19, %lu with a "
+           "byte 17 or 18 out of range; %lu opened with these in range\n", loops, done.frames, done.bytes, done.cuts,
+           done.longer, done.heads, done.counts, done.editions, loops, done.chosen, done.choices, done.not_sound,
+           done.standings);
     return 0;
 }

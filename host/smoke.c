@@ -1,6 +1,6 @@
-/* Runs the rows of 01 and 02, 01's cases at the limits, the choices of a load, hops owed, a saved loop, as it is saved
-   now and as it was before, and codes of 001's message table through libpil.a, called as a bench calls it. Prints each
-   check that fails and exits 1, or how many held. */
+/* Runs the rows of 01 and 02, 01's cases at the limits, the choices of a load, remote and local, clears and triggers,
+   hops owed, a saved loop, as it is saved now and as it was before, and codes of 001's message table through libpil.a,
+   called as a bench calls it. Prints each check that fails and exits 1, or how many held. */
 #include "pil.h"
 
 #include <stdio.h>
@@ -144,6 +144,171 @@ static void service_rows(void)
     check("row 12, service 2", sends(0x600), 0x600);
 }
 
+/* Remote and local (02, d; 001, 2.17): from local, remote, and each of them locked, to where a message or the key leads
+   while not enabled, and while enabled. */
+enum { KEY = PIL_FRAMES, REMOTES = PIL_REMOTE_LOCKED + 1 };
+
+static const struct {
+    const char *what;
+    unsigned frame, listener;
+    uint8_t off[REMOTES], on[REMOTES];
+    uint8_t enabled[2]; /* the flag after it, by the flag before it */
+} moves[] = {
+    {"REN", 0x492, 0, {0, 1, 2, 3}, {0, 1, 2, 3}, {1, 1}},
+    {"REN, a listener", 0x492, 1, {0, 1, 2, 3}, {0, 1, 2, 3}, {1, 1}},
+    {"NRE", 0x493, 0, {0, 0, 0, 0}, {0, 0, 0, 0}, {0, 0}},
+    {"own LAD", 0x425, 0, {0, 1, 2, 3}, {1, 1, 3, 3}, {0, 1}},
+    {"another's LAD", 0x426, 0, {0, 1, 2, 3}, {0, 1, 2, 3}, {0, 1}},
+    {"own TAD", 0x445, 1, {0, 1, 2, 3}, {0, 1, 2, 3}, {0, 1}},
+    {"UNL", 0x43f, 1, {0, 1, 2, 3}, {0, 1, 2, 3}, {0, 1}},
+    {"LLO", 0x411, 0, {0, 1, 2, 3}, {2, 3, 2, 3}, {0, 1}},
+    {"GTL, a listener", 0x401, 1, {0, 0, 2, 2}, {0, 0, 2, 2}, {0, 1}},
+    {"GTL, no listener", 0x401, 0, {0, 1, 2, 3}, {0, 1, 2, 3}, {0, 1}},
+    {"IFC", 0x490, 1, {0, 1, 2, 3}, {0, 1, 2, 3}, {0, 1}},
+    {"DCL", 0x414, 1, {0, 1, 2, 3}, {0, 1, 2, 3}, {0, 1}},
+    {"SDC", 0x404, 1, {0, 1, 2, 3}, {0, 1, 2, 3}, {0, 1}},
+    {"GET", 0x408, 1, {0, 1, 2, 3}, {0, 1, 2, 3}, {0, 1}},
+    {"key", KEY, 0, {0, 0, 2, 3}, {0, 0, 2, 3}, {0, 1}},
+    {"key, a listener", KEY, 1, {0, 0, 2, 3}, {0, 0, 2, 3}, {0, 1}},
+};
+
+static void remote_rows(void)
+{
+    for (unsigned i = 0; i < sizeof moves / sizeof *moves; i++)
+        for (unsigned from = 0; from < 2 * REMOTES; from++) {
+            unsigned remote = from % REMOTES, enabled = from / REMOTES;
+
+            at_5();
+            record[PIL_RECORD_LISTENER] = (uint8_t)moves[i].listener;
+            record[PIL_RECORD_REMOTE] = (uint8_t)remote;
+            record[PIL_RECORD_ENABLED] = (uint8_t)enabled;
+            if (moves[i].frame == KEY)
+                check(moves[i].what, pil_key(area, sizeof area, 0), PIL_ACCEPTED);
+            else
+                check(moves[i].what, sends(moves[i].frame), moves[i].frame);
+            check(moves[i].what, record[PIL_RECORD_REMOTE], enabled ? moves[i].on[remote] : moves[i].off[remote]);
+            check(moves[i].what, record[PIL_RECORD_ENABLED], moves[i].enabled[enabled]);
+        }
+}
+
+/* A device without ability 1 is enabled and locked like any other, but no LAD is its own. */
+static void no_listener_cases(void)
+{
+    uint8_t item[PIL_ITEM_LENGTH] = {PIL_ABILITY_DATA, 5};
+
+    check("set-up, no listener", pil_set_up(area, sizeof area, item, sizeof item), PIL_ACCEPTED);
+    sends(0x492);
+    check("no listener, REN", record[PIL_RECORD_ENABLED], 1);
+    sends(0x425);
+    check("no listener, LAD", record[PIL_RECORD_REMOTE], PIL_LOCAL);
+    sends(0x411);
+    check("no listener, LLO", record[PIL_RECORD_REMOTE], PIL_LOCAL_LOCKED);
+    record[PIL_RECORD_REMOTE] = PIL_REMOTE;
+    check("no listener, key", pil_key(area, sizeof area, 0), PIL_ACCEPTED);
+    check("no listener, key to local", record[PIL_RECORD_REMOTE], PIL_LOCAL);
+}
+
+static void key_refusals(void)
+{
+    static uint8_t before[sizeof area];
+
+    at_5();
+    check("power-on, local", record[PIL_RECORD_REMOTE], PIL_LOCAL);
+    check("power-on, not enabled", record[PIL_RECORD_ENABLED], 0);
+    record[PIL_RECORD_REMOTE] = PIL_REMOTE;
+    memcpy(before, area, sizeof area);
+    check("key, a wrong length", pil_key(area, sizeof area - 1, 0), PIL_SHAPE);
+    check("key, a wrong length and device 1", pil_key(area, sizeof area - 1, 1), PIL_SHAPE);
+    check("key, device 1", pil_key(area, sizeof area, 1), PIL_NO_DEVICE);
+    check("key, device 256", pil_key(area, sizeof area, 256), PIL_NO_DEVICE);
+    check("key, device 2^32", pil_key(area, sizeof area, (uint64_t)1 << 32), PIL_NO_DEVICE);
+    check("key, device 2^64 - 1", pil_key(area, sizeof area, UINT64_MAX), PIL_NO_DEVICE);
+    check("key refused, the area", memcmp(area, before, sizeof area), 0);
+    record[PIL_RECORD_REMOTE] = PIL_REMOTE_LOCKED + 1;
+    check("key, state 4", pil_key(area, sizeof area, 0), PIL_UNSOUND);
+    check("key, state 4 and device 1", pil_key(area, sizeof area, 1), PIL_UNSOUND);
+    record[PIL_RECORD_REMOTE] = PIL_REMOTE;
+    record[PIL_RECORD_ENABLED] = 2;
+    check("key, enabled 2", pil_key(area, sizeof area, 0), PIL_UNSOUND);
+    check("hop, enabled 2", pil_hop(area, sizeof area, 0).refusal, PIL_UNSOUND);
+}
+
+/* A hop of one device that reports the event, sends the frame on and leaves the record as it was. */
+static void tells(const char *what, unsigned frame, unsigned listener, unsigned event)
+{
+    uint8_t before[PIL_RECORD_LENGTH];
+    struct pil_hopped hopped;
+
+    at_5();
+    record[PIL_RECORD_LISTENER] = (uint8_t)listener;
+    memcpy(before, record, sizeof before);
+    check(what, pil_put(area, sizeof area, frame), PIL_ACCEPTED);
+    hopped = pil_hop(area, sizeof area, 0);
+    check(what, hopped.refusal, PIL_ACCEPTED);
+    check(what, hopped.event, event);
+    check(what, hopped.frame, frame);
+    check(what, hopped.handed, 0);
+    check(what, hopped.byte, 0);
+    check(what, hopped.end, 0);
+    check(what, memcmp(record, before, sizeof before), 0);
+    hopped = pil_hop(area, sizeof area, 0);
+    check(what, hopped.refusal, PIL_EMPTY);
+    check(what, hopped.event, PIL_EVENT_NONE);
+}
+
+static void event_cases(void)
+{
+    tells("DCL, no listener", 0x414, 0, PIL_EVENT_CLEAR);
+    tells("DCL, a listener", 0x414, 1, PIL_EVENT_CLEAR);
+    tells("SDC, no listener", 0x404, 0, PIL_EVENT_NONE);
+    tells("SDC, a listener", 0x404, 1, PIL_EVENT_CLEAR);
+    tells("GET, no listener", 0x408, 0, PIL_EVENT_NONE);
+    tells("GET, a listener", 0x408, 1, PIL_EVENT_TRIGGER);
+    tells("NUL, a listener", 0x400, 1, PIL_EVENT_NONE);
+    tells("409, no message, a listener", 0x409, 1, PIL_EVENT_NONE);
+}
+
+static void drains(const char *what, uint8_t *loop, size_t length, uint64_t budget, struct pil_drained expected)
+{
+    struct pil_drained drained = pil_drain(loop, length, budget);
+
+    check(what, drained.refusal, PIL_ACCEPTED);
+    check(what, drained.hops, expected.hops);
+    check(what, drained.reason, expected.reason);
+    check(what, drained.device, expected.device);
+    check(what, drained.byte, expected.byte);
+    check(what, drained.end, expected.end);
+}
+
+/* Two devices, the second a listener. A stop on an event comes after one on a byte and before those on no hop and on
+   the budget, which that hop may have spent. */
+static void event_stop_cases(void)
+{
+    static uint8_t loop[PIL_AREA_LENGTH(2)];
+    static const uint8_t items[PIL_ITEMS_LENGTH(2)] = {0, 1, [PIL_ITEM_AT(1)] = PIL_ABILITY_LISTEN, 2};
+
+    check("set-up of two", pil_set_up(loop, sizeof loop, items, sizeof items), PIL_ACCEPTED);
+    loop[PIL_RECORD_AT(1) + PIL_RECORD_LISTENER] = 1;
+    check("put DCL", pil_put(loop, sizeof loop, 0x414), PIL_ACCEPTED);
+    check("put SDC", pil_put(loop, sizeof loop, 0x404), PIL_ACCEPTED);
+    check("put GET", pil_put(loop, sizeof loop, 0x408), PIL_ACCEPTED);
+    drains("drain, budget 0", loop, sizeof loop, 0, (struct pil_drained){0, 0, PIL_STOP_BUDGET, 0, 0, 0});
+    drains("DCL at 0, budget 1", loop, sizeof loop, 1, (struct pil_drained){1, 0, PIL_STOP_EVENT, 0, 1, 0});
+    drains("DCL at 1, budget 9", loop, sizeof loop, 9, (struct pil_drained){1, 0, PIL_STOP_EVENT, 1, 1, 0});
+    drains("SDC, budget 2", loop, sizeof loop, 2, (struct pil_drained){2, 0, PIL_STOP_EVENT, 1, 1, 0});
+    drains("GET at 0, budget 1", loop, sizeof loop, 1, (struct pil_drained){1, 0, PIL_STOP_BUDGET, 0, 0, 0});
+    drains("GET at 1, budget 1", loop, sizeof loop, 1, (struct pil_drained){1, 0, PIL_STOP_EVENT, 1, 2, 0});
+    drains("drained", loop, sizeof loop, 9, (struct pil_drained){0, 0, PIL_STOP_NO_HOP, 0, 0, 0});
+    for (unsigned i = 0; i < 3; i++)
+        check("take", pil_take(loop, sizeof loop).refusal, PIL_ACCEPTED);
+    check("put END", pil_put(loop, sizeof loop, 0x241), PIL_ACCEPTED);
+    check("put DCL", pil_put(loop, sizeof loop, 0x414), PIL_ACCEPTED);
+    check("hop", pil_hop(loop, sizeof loop, 0).refusal, PIL_ACCEPTED);
+    check("hop, clear", pil_hop(loop, sizeof loop, 0).event, PIL_EVENT_CLEAR);
+    drains("a byte before DCL", loop, sizeof loop, 9, (struct pil_drained){1, 0, PIL_STOP_HANDED, 1, 0x41, 1});
+    drains("DCL behind a byte", loop, sizeof loop, 9, (struct pil_drained){1, 0, PIL_STOP_EVENT, 1, 1, 0});
+}
+
 static void limits(void)
 {
     static uint8_t longest[PIL_AREA_LENGTH(PIL_MOST_DEVICES + 1)], bytes[PIL_MOST_DATA + 1];
@@ -270,6 +435,8 @@ static void open_cases(void)
     check("open, edition 2 and a wrong length", opens_with(PIL_SAVE_EDITION, 2, sizeof area - 1, 116), PIL_BAD_SAVE);
     check("open, header byte 2", opens_with(6 + 2, 1, sizeof area, 116), PIL_UNSOUND);
     check("open, choice 2", opens_with(14 + 6 + 19, 2, sizeof area, 116), PIL_UNSOUND);
+    check("open, state 4 of remote and local", opens_with(14 + 6 + 17, 4, sizeof area, 116), PIL_UNSOUND);
+    check("open, enabled 2", opens_with(14 + 6 + 18, 2, sizeof area, 116), PIL_UNSOUND);
     check("open, an old save with a byte 19", opens_with(PIL_SAVE_EDITION, 0, sizeof area, 116), PIL_UNSOUND);
     check("open, a listener over 1", opens_with(14 + 6 + 4, 2, sizeof area, 116), PIL_UNSOUND);
     check("open refused, the area", memcmp(area, fresh_area, sizeof area), 0);
@@ -360,6 +527,11 @@ int main(void)
     data_rows();
     choice_cases();
     service_rows();
+    remote_rows();
+    no_listener_cases();
+    key_refusals();
+    event_cases();
+    event_stop_cases();
     limits();
     owed_cases();
     save_cases();

@@ -20,7 +20,7 @@ enum {
 /* What a device has left to send: none, half, or the last byte of its data, which goes out plain or as an END. */
 enum { NONE_LEFT, HALF_LEFT, LAST_LEFT_PLAIN, LAST_LEFT_END, LEFTS };
 
-enum { RECORDS = LOOP_TALKER_STATES * 3 * 2 * LEFTS * 2 * 3 }; /* numbers for make_record */
+enum { RECORDS = LOOP_TALKER_STATES * 3 * 2 * LEFTS * 4 * 2 }; /* numbers for make_record */
 
 typedef void function(void);
 
@@ -187,25 +187,33 @@ static int leave(uint8_t *r, unsigned left)
     return r[PIL_RECORD_TALKER] == PIL_TALKER_ADDRESSED || r[PIL_RECORD_TALKER] == PIL_TALKER_DATA;
 }
 
-/* A full record in each state that makes a difference to the frame, by number; gives 0 if a lower number has made one
-   that the frame finds the same. Only a data byte finds NRD and the byte sent last, and only in a sending device. */
-static int make_record(uint8_t *r, unsigned number, unsigned frame)
+/* What only some frames find, by what is left of the number; gives 0 if there is more of it. A command finds remote and
+   local, a data byte in a sending device NRD and the byte sent last. */
+static int make_found(uint8_t *r, unsigned number, unsigned frame)
 {
     static const unsigned others[] = {0, 1, PIL_C2};
     unsigned last;
 
+    if (frame >= PIL_C3 && frame < PIL_C3 + PIL_C1) {
+        r[PIL_RECORD_REMOTE] = (uint8_t)digit(&number, PIL_REMOTE_LOCKED + 1);
+        r[PIL_RECORD_ENABLED] = (uint8_t)digit(&number, 2);
+    } else if (frame < PIL_C3 && r[PIL_RECORD_TALKER] >= PIL_TALKER_DATA) {
+        r[PIL_RECORD_NRD] = (uint8_t)digit(&number, 2);
+        last = (frame ^ others[digit(&number, 3)]) & (PIL_C2 | PIL_C1 | PIL_DATA_BITS);
+        r[PIL_RECORD_LAST] = (uint8_t)last;
+        r[PIL_RECORD_LAST + 1] = (uint8_t)(last >> 8);
+    }
+    return number == 0;
+}
+
+/* A full record in each state that makes a difference to the frame, by number; gives 0 if a lower number has made one
+   that the frame finds the same. */
+static int make_record(uint8_t *r, unsigned number, unsigned frame)
+{
     full_record(r, ADDRESS, digit(&number, LOOP_TALKER_STATES));
     r[PIL_RECORD_SERVICE] = (uint8_t)digit(&number, PIL_SERVICE_POLLED + 1);
     r[PIL_RECORD_LISTENER] = (uint8_t)digit(&number, 2);
-    if (!leave(r, digit(&number, LEFTS)))
-        return 0;
-    if (r[PIL_RECORD_TALKER] < PIL_TALKER_DATA || frame >= PIL_C3)
-        return number == 0;
-    r[PIL_RECORD_NRD] = (uint8_t)digit(&number, 2);
-    last = (frame ^ others[digit(&number, 3)]) & (PIL_C2 | PIL_C1 | PIL_DATA_BITS);
-    r[PIL_RECORD_LAST] = (uint8_t)last;
-    r[PIL_RECORD_LAST + 1] = (uint8_t)(last >> 8);
-    return 1;
+    return leave(r, digit(&number, LEFTS)) && make_found(r, number, frame);
 }
 
 /* Every device has data, for which an opening of the old save chooses END. */

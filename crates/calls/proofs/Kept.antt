@@ -24,7 +24,8 @@ use Rattle.area.proofs.Areas.{device-kept, link-kept}
 use Rattle.calls.specs.Outcome.{Outcome, refuse, done, loopAfter}
 use Rattle.calls.specs.Calls.{atPlace, ofOldest, intoRoom, putIn, takenFrom, takeIn, sentBy, passed, passes}
 use Rattle.calls.specs.Calls.{passesOn, hopFrom, hopIn, calledAt, localIn}
-use Rattle.calls.specs.Drain.{noHopLeft, budgetSpent, highest, stopped, handedTo, turned, onPlace, drainFrom}
+use Rattle.calls.specs.Drain.{noHopLeft, budgetSpent, highest, stopped, handedTo, reportedBy, turned}
+use Rattle.calls.specs.Drain.{onPlace, drainFrom}
 use Rattle.calls.specs.Laws.{Kept, PutKeeps, TakeKeeps, HopKeeps, Keeps, DrainKeeps}
 use Rattle.calls.specs.declared.HopAnswer.{HopAnswer}
 use Rattle.calls.specs.declared.DrainAnswer.{DrainAnswer}
@@ -132,11 +133,13 @@ turned-keeps : (i h : ℕ) (next : Loop → Outcome DrainAnswer) (l m : Loop) �
     ((k : Loop) → Kept l k → Kept l (loopAfter l (next k))) →
     (o : Outcome HopAnswer) → Kept l (loopAfter m o) → Kept l (loopAfter l (turned i h next m o))
 turned-keeps i h next l m s k (refuse n) t = s
-turned-keeps i h next l m s k (done r q) t = go (eqb (r .handed) 1)
+turned-keeps i h next l m s k (done r q) t = go (eqb (r .handed) 1) (eqb (r .event) 0)
   where
-    go : (u : Bool) → Kept l (loopAfter l (cond u (handedTo i (suc h) r q) (next q)))
-    go true = t
-    go false = k q t
+    go : (u v : Bool) →
+        Kept l (loopAfter l (cond u (handedTo i (suc h) r q) (cond v (next q) (reportedBy i (suc h) r q))))
+    go true v = t
+    go false true = k q t
+    go false false = t
 
 drain-keeps-from : (b h : ℕ) (l m : Loop) → Kept l m → Kept l (loopAfter l (drainFrom b h m))
 unfolding drainFrom

@@ -2,12 +2,13 @@
 use mathlib.Core.Path.{refl, sym, _∙_}
 use mathlib.Core.Bool.{Bool, true, false, cond}
 use Rattle.device.specs.Device.{isChoice}
-use Rattle.keeps.proofs.Keeps.{load-good, status-good, wish-good}
+use Rattle.keeps.proofs.Keeps.{load-good, status-good, wish-good, key-good}
 use Rattle.area.proofs.Areas.{holds-of}
 use Rattle.calls.specs.Outcome.{refuse, loopAfter}
 use Rattle.calls.specs.Calls.{localIn, loadIn}
 use Rattle.calls.specs.Laws.{Unique, CallOnLoop, Kept, AreaAfter, LoadKeeps, StatusKeeps, WishKeeps}
-use Rattle.record_local.specs.Local.{loads, setsStatus, wishes}
+use Rattle.calls.specs.Laws.{KeyKeeps}
+use Rattle.record_local.specs.Local.{loads, setsStatus, wishes, presses}
 use Rattle.area.specs.Loop.{unsound}
 use Rattle.calls.proofs.Outcomes.{call-done}
 use Rattle.calls.proofs.Kept.{local-keeps}
@@ -37,3 +38,6 @@ status-keeps i s small = local-keeps (λ d. setsStatus d s) (λ d g. status-good
 
 pub wish-keeps : WishKeeps
 wish-keeps i w = local-keeps (λ d. wishes d w) (λ d g. wish-good d w g) i
+
+pub key-keeps : KeyKeeps
+key-keeps i = local-keeps presses key-good i

@@ -20,8 +20,8 @@ use Rattle.area.proofs.Areas.{area-holds, loop-good, holds-of}
 use Rattle.order.specs.Owed.{owed}
 use Rattle.calls.specs.Outcome.{Outcome, refuse, done, afterOf, Is, loopAfter}
 use Rattle.calls.specs.Calls.{atPlace, ofOldest, intoRoom, noHop, passes, passesOn, hopFrom, hopIn}
-use Rattle.calls.specs.Drain.{noHopLeft, budgetSpent, byteHanded, noDrain, hasRoom, canFrom, canHop, highest}
-use Rattle.calls.specs.Drain.{stopped, handedTo, turned, drainFrom, drainIn}
+use Rattle.calls.specs.Drain.{noHopLeft, budgetSpent, byteHanded, eventReported, noDrain, hasRoom, canFrom}
+use Rattle.calls.specs.Drain.{canHop, highest, stopped, handedTo, reportedBy, turned, drainFrom, drainIn}
 use Rattle.calls.specs.declared.HopAnswer.{HopAnswer}
 use Rattle.calls.specs.declared.DrainAnswer.{DrainAnswer}
 use Rattle.calls.proofs.Kept.{hop-keeps}
@@ -146,7 +146,7 @@ module _ (h : ℕ) (l : Loop) where
   drain-turn zero i z e = absurd (not-suc-le-zero z)
   drain-turn (suc b) i z e = let k : suc b - 1 ≡ b = omega arith in rw (e, k, add-one)
 
--- after a hop that answers r: a byte was handed over, or not
+-- after a hop that answers r: a byte was handed over, or a clear or trigger was reported, or neither
 module _ (a : List ℕ) (i h : ℕ) (next : Loop → Outcome DrainAnswer) (l : Loop) (r : HopAnswer) where
   pub turned-stop : (o : Outcome HopAnswer) → r ≡ afterOf noHop a o .answer → r .handed ≡ 1 →
       turned i h next l o ≡ handedTo i (h + 1) r (loopAfter l o)
@@ -154,10 +154,25 @@ module _ (a : List ℕ) (i h : ℕ) (next : Loop → Outcome DrainAnswer) (l : L
       ∙ t in let y : ⊥ = omega arith in absurd y
   turned-stop (done q m) e t = rw (eq-eqb (q .handed) 1 (sym (ap (λ (q : HopAnswer). q .handed) e) ∙ t), e, add-one)
 
+  pub turned-event : (o : Outcome HopAnswer) → IsDone o → r ≡ afterOf noHop a o .answer → (r .handed ≡ 1 → ⊥) →
+      (r .event ≡ 0 → ⊥) → turned i h next l o ≡ reportedBy i (h + 1) r (loopAfter l o)
+  turned-event (refuse k) d e t n = absurd d
+  turned-event (done q m) d e t n =
+      rw (
+        ne-eqb (q .handed) 1 (λ z. t (ap (λ (q : HopAnswer). q .handed) e ∙ z)),
+        ne-eqb (q .event) 0 (λ z. n (ap (λ (q : HopAnswer). q .event) e ∙ z)),
+        e,
+        add-one,
+      )
+
   pub turned-on : (o : Outcome HopAnswer) → IsDone o → r ≡ afterOf noHop a o .answer → (r .handed ≡ 1 → ⊥) →
-      turned i h next l o ≡ next (loopAfter l o)
-  turned-on (refuse k) d e t = absurd d
-  turned-on (done q m) d e t = rw (ne-eqb (q .handed) 1 (λ z. t (ap (λ (q : HopAnswer). q .handed) e ∙ z)))
+      r .event ≡ 0 → turned i h next l o ≡ next (loopAfter l o)
+  turned-on (refuse k) d e t n = absurd d
+  turned-on (done q m) d e t n =
+      rw (
+        ne-eqb (q .handed) 1 (λ z. t (ap (λ (q : HopAnswer). q .handed) e ∙ z)),
+        eq-eqb (q .event) 0 (sym (ap (λ (q : HopAnswer). q .event) e) ∙ n),
+      )
 
 -- ---- turns on an area
 
@@ -237,10 +252,25 @@ module _ (a₀ a : List ℕ) (b n h : ℕ) (t : Turn a₀ a b n h) where
         rw (turn ∙ turned-stop a i h (drainFrom (b - h - 1) (h + 1)) l r (hopIn i l) (is .0) e)
         (refl, left .written)
 
-    pub next-turn : (r .handed ≡ 1 → ⊥) → length x ≡ length a → Turn a₀ x b n (h + 1)
-    next-turn e k =
+    did : IsDone (hopIn i (loopOf a))
+    did = can-done i (loopOf a) (rw (t .count) at there) can
+
+    pub event-seen : (z : ℕ) → z ≡ 0 → (r .handed ≡ 1 → ⊥) → (r .event ≡ 0 → ⊥) →
+        Drains a₀ b (record {
+          hops = h + 1;
+          refusal = 0;
+          reason = eventReported;
+          device = i;
+          byte = r .event;
+          end = z;
+        }) x
+    event-seen z o e n =
+        rw (turn ∙ turned-event a i h (drainFrom (b - h - 1) (h + 1)) l r (hopIn i l) did (is .0) e n, o)
+        (refl, left .written)
+
+    pub next-turn : (r .handed ≡ 1 → ⊥) → r .event ≡ 0 → length x ≡ length a → Turn a₀ x b n (h + 1)
+    next-turn e o k =
         let s = hop-keeps i l (t .sound) in
-        let did = can-done i l (rw (t .count) at there) can in
         let p = hop-pays i l (t .sound) did in
         let d : b - (h + 1) ≡ b - h - 1 = omega arith in
         let f : loopOf x ≡ m = left .held in
@@ -252,7 +282,7 @@ module _ (a₀ a : List ℕ) (b n h : ℕ) (t : Turn a₀ a b n h) where
           long = k ∙ t .long;
           paid = rw f (omega (arith, t .paid));
           rest = rw (f, d)
-              (turn ∙ turned-on a i h (drainFrom (b - h - 1) (h + 1)) l r (hopIn i l) did (is .0) e);
+              (turn ∙ turned-on a i h (drainFrom (b - h - 1) (h + 1)) l r (hopIn i l) did (is .0) e o);
         }
 
     -- and no device past the next can hop

@@ -1,5 +1,5 @@
--- Put, take, hop and the local calls (01, The calls), each on a loop and then on an area, with its refusals in 01's
--- order.
+-- Put, take, hop and the local calls (01, The calls; 02, d and h), each on a loop and then on an area, with its
+-- refusals in 01's order.
 use Prim.Native.Nat.{ℕ, suc}
 use mathlib.Core.List.{List}
 use mathlib.Core.Bool.{cond}
@@ -8,7 +8,7 @@ use Rattle.frame.specs.Messages.{frames}
 use Rattle.frame.specs.Coding.{badFrame}
 use Rattle.device.specs.Device.{isChoice}
 use Rattle.device.specs.Take.{takes}
-use Rattle.record_local.specs.Local.{loads, setsStatus, wishes}
+use Rattle.record_local.specs.Local.{loads, setsStatus, wishes, presses}
 use Rattle.device.specs.declared.Device.{Device}
 use Rattle.device.specs.declared.Handed.{Handed}
 use Rattle.device.specs.declared.Handed.the-variants as handed
@@ -73,13 +73,25 @@ takeIn l = ofOldest (takenFrom l) (oldestOf (link l (size l)))
 
 -- ---- hop: device i takes its oldest frame and sends one
 
+-- the events that it reports: none, a clear, a trigger (02, d)
+abbrev pub noEvent : ℕ
+noEvent = 0
+
+abbrev pub clear : ℕ
+clear = 1
+
+abbrev pub trigger : ℕ
+trigger = 2
+
 abbrev pub noHop : ℕ → HopAnswer
-noHop k = record { frame = 0; refusal = k; handed = 0; byte = 0; end = 0 }
+noHop k = record { frame = 0; refusal = k; handed = 0; byte = 0; end = 0; event = noEvent }
 
 -- the numbers of a hop that sent f, for each case of what was handed over
 abbrev pub hopAnswer : ℕ → Handed → HopAnswer
-hopAnswer f handed.Nothing = record { frame = f; refusal = 0; handed = 0; byte = 0; end = 0 }
-hopAnswer f (handed.Byte b e) = record { frame = f; refusal = 0; handed = 1; byte = b; end = e }
+hopAnswer f handed.Nothing = record { frame = f; refusal = 0; handed = 0; byte = 0; end = 0; event = noEvent }
+hopAnswer f (handed.Byte b e) = record { frame = f; refusal = 0; handed = 1; byte = b; end = e; event = noEvent }
+hopAnswer f handed.Clear = record { frame = f; refusal = 0; handed = 0; byte = 0; end = 0; event = clear }
+hopAnswer f handed.Trigger = record { frame = f; refusal = 0; handed = 0; byte = 0; end = 0; event = trigger }
 
 -- what device i does with frame f
 abbrev pub sentBy : ℕ → ℕ → Loop → Sent
@@ -138,3 +150,6 @@ statusOf a i s = callOf refusal (localIn (λ d. setsStatus d s) i) a
 
 abbrev pub wishOf : List ℕ → ℕ → ℕ → After ℕ
 wishOf a i w = callOf refusal (localIn (λ d. wishes d w) i) a
+
+abbrev pub keyOf : List ℕ → ℕ → After ℕ
+keyOf a i = callOf refusal (localIn presses i) a

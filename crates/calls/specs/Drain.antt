@@ -1,4 +1,4 @@
--- The drain (01, The calls): the highest-numbered device that can hop does, repeatedly.
+-- The drain (01, The calls; 02, d): the highest-numbered device that can hop does, repeatedly.
 use Prim.Native.Nat.{ℕ, zero, suc}
 use mathlib.Core.List.{List}
 use mathlib.Core.Bool.{Bool, true, false, cond}
@@ -9,11 +9,11 @@ use Rattle.area.specs.declared.Oldest.{Oldest}
 use Rattle.area.specs.declared.Room.{Room}
 use Rattle.area.specs.declared.Place.{Place}
 use Rattle.calls.specs.Outcome.{Outcome, refuse, done, After, callOf}
-use Rattle.calls.specs.Calls.{hopIn}
+use Rattle.calls.specs.Calls.{noEvent, hopIn}
 use Rattle.calls.specs.declared.HopAnswer.{HopAnswer}
 use Rattle.calls.specs.declared.DrainAnswer.{DrainAnswer}
 
--- why it stopped: no hop is possible, the budget is spent, a byte was handed over
+-- why it stopped: no hop is possible, the budget is spent, a byte was handed over, a clear or trigger was reported
 abbrev pub noHopLeft : ℕ
 noHopLeft = 0
 
@@ -22,6 +22,9 @@ budgetSpent = 1
 
 abbrev pub byteHanded : ℕ
 byteHanded = 2
+
+abbrev pub eventReported : ℕ
+eventReported = 3
 
 abbrev pub noDrain : ℕ → DrainAnswer
 noDrain k = record { hops = 0; refusal = k; reason = 0; device = 0; byte = 0; end = 0 }
@@ -53,11 +56,18 @@ abbrev pub handedTo : ℕ → ℕ → HopAnswer → Loop → Outcome DrainAnswer
 handedTo i h r l = done
     (record { hops = h; refusal = 0; reason = byteHanded; device = i; byte = r .byte; end = r .end }) l
 
--- device i's hop, after h others: it can hop, so it is not refused; the drain stops where a byte was handed, and else
--- goes on
+-- or one that reported a clear or trigger, which is answered as the byte
+abbrev pub reportedBy : ℕ → ℕ → HopAnswer → Loop → Outcome DrainAnswer
+reportedBy i h r l = done
+    (record { hops = h; refusal = 0; reason = eventReported; device = i; byte = r .event; end = 0 }) l
+
+-- device i's hop, after h others: it can hop, so it is not refused; the drain stops where a byte was handed, then where
+-- something was reported, and else goes on
 abbrev pub turned : ℕ → ℕ → (Loop → Outcome DrainAnswer) → Loop → Outcome HopAnswer → Outcome DrainAnswer
 turned i h next l (refuse k) = stopped noHopLeft h l
-turned i h next l (done r m) = cond (eqb (r .handed) 1) (handedTo i (suc h) r m) (next m)
+turned i h next l (done r m) =
+    cond (eqb (r .handed) 1) (handedTo i (suc h) r m)
+    (cond (eqb (r .event) noEvent) (next m) (reportedBy i (suc h) r m))
 
 -- one thing where there is no device, another by the device's number
 abbrev pub onPlace : {A : Type 0} → A → (ℕ → A) → Place → A

@@ -6,7 +6,14 @@ pub const EMPTY: u8 = 5;
 
 pub const FULL: u8 = 6;
 
-// The frame sent and, where `handed` is 1, the byte handed with its end bit.
+// The events that a hop reports: none, a clear, a trigger.
+pub const NO_EVENT: u8 = 0;
+
+pub const CLEAR: u8 = 1;
+
+pub const TRIGGER: u8 = 2;
+
+// The frame sent; where `handed` is 1, the byte handed with its end bit; and the event.
 #[repr(C)]
 pub struct HopAnswer {
     pub frame: u16,
@@ -14,6 +21,7 @@ pub struct HopAnswer {
     pub handed: u8,
     pub byte: u8,
     pub end: u8,
+    pub event: u8,
 }
 
 // The frame taken.
@@ -23,7 +31,8 @@ pub struct TakeAnswer {
     pub refusal: u8,
 }
 
-// The hops made and why there are no more; for reason 2 the device, the byte handed to it and its end bit.
+// The hops made and why there are no more; for reason 2 the device, the byte handed to it and its end bit, for reason 3
+// the device and, as the byte, the event.
 #[repr(C)]
 pub struct DrainAnswer {
     pub hops: u32,

@@ -1,18 +1,28 @@
-// Commands: the state after each (01, What a device does with a frame).
+// Commands (01, What a device does with a frame; 02, d): each goes on unchanged, with the state after it and the clear
+// or trigger that it is.
 use device::Device;
+use device::Handed;
 use frame::Kind;
 use record::FIXED;
 use record::read::has;
 use record::read::talks;
+use remote::gtl;
+use remote::llo;
+use remote::nre;
+use remote::ren;
+use remote::to_remote;
+use state::Passed;
 use state::State;
+use state::sends;
 ghost use mathlib.Core.Path.{_≡_};
 ghost use lib.ListN.{length};
+ghost use Rattle.device.specs.Clear.{reports, toListener};
 ghost use Rattle.device.specs.Commands.{lad, tad, aau};
-ghost use Rattle.device.specs.Reply.{sends};
 ghost use Rattle.device.specs.Take.{takes};
+ghost use Rattle.device.specs.declared.Device.{Device};
 ghost use Rattle.frame.specs.Classes.{IsCommand};
 ghost use Rattle.record.specs.Record.{recordSize};
-ghost use Rattle.state.specs.State.{inRecord};
+ghost use Rattle.state.specs.State.{with, inRecord, sentWith, sentFrom};
 
 fn lad(state: State, rec: &[u8], address: u8) -> State
     requires { ⌜ length (now rec) ≡ recordSize ⌝ }
@@ -20,10 +30,11 @@ fn lad(state: State, rec: &[u8], address: u8) -> State
 {
     if address == state.address {
         if has(rec, Device::LISTEN) {
+            let moved = to_remote(state);
             if has(rec, Device::UNADDRESS) {
-                return state.roles(1, Device::IDLE);
+                return moved.roles(1, Device::IDLE);
             }
-            return state.listening(1);
+            return moved.listening(1);
         }
         return state;
     }
@@ -56,18 +67,44 @@ fn aau(state: State, rec: &[u8]) -> State
     state
 }
 
-// The state after a command, which itself goes on unchanged.
-pub fn command(state: State, rec: &[u8], frame: u16) -> State
+fn reports(state: State, frame: u16, event: Handed) -> Passed
+    ensures { λ r. ⌜ ((d : Device) → sentWith d r ≡ reports (with d state) frame event) ⌝ }
+{
+    Passed {
+        state,
+        frame,
+        handed: event,
+    }
+}
+
+fn to_listener(state: State, frame: u16, event: Handed) -> Passed
+    ensures { λ r. ⌜ ((d : Device) → sentWith d r ≡ toListener (with d state) frame event) ⌝ }
+{
+    if state.listener == 1 {
+        return reports(state, frame, event);
+    }
+    sends(state, frame)
+}
+
+// What a device does with a command.
+pub fn command(state: State, rec: &[u8], frame: u16) -> Passed
     requires { ⌜ (length (now rec) ≡ recordSize) × IsCommand frame ⌝ }
-    ensures { λ r. ⌜ sends (inRecord (now (rec .entry)) r) frame ≡ takes (inRecord (now (rec .entry)) state) frame ⌝ }
+    ensures { λ r. ⌜ sentFrom (now (rec .entry)) r ≡ takes (inRecord (now (rec .entry)) state) frame ⌝ }
 {
     match frame::kind_of(frame) {
-        Kind::Lad => lad(state, rec, frame::offset_of(Kind::Lad, frame)),
-        Kind::Unl => state.listening(0),
-        Kind::Tad => tad(state, rec, frame::offset_of(Kind::Tad, frame)),
-        Kind::Unt => state.talking(Device::IDLE),
-        Kind::Ifc => state.roles(0, Device::IDLE),
-        Kind::Aau => aau(state, rec),
-        _ => state,
+        Kind::Lad => sends(lad(state, rec, frame::offset_of(Kind::Lad, frame)), frame),
+        Kind::Unl => sends(state.listening(0), frame),
+        Kind::Tad => sends(tad(state, rec, frame::offset_of(Kind::Tad, frame)), frame),
+        Kind::Unt => sends(state.talking(Device::IDLE), frame),
+        Kind::Ifc => sends(state.roles(0, Device::IDLE), frame),
+        Kind::Aau => sends(aau(state, rec), frame),
+        Kind::Dcl => reports(state, frame, Handed::Clear),
+        Kind::Sdc => to_listener(state, frame, Handed::Clear),
+        Kind::Get => to_listener(state, frame, Handed::Trigger),
+        Kind::Ren => sends(ren(state), frame),
+        Kind::Nre => sends(nre(state), frame),
+        Kind::Llo => sends(llo(state), frame),
+        Kind::Gtl => sends(gtl(state), frame),
+        _ => sends(state, frame),
     }
 }

@@ -33,8 +33,8 @@ use Rattle.order.specs.Flat.{Flat, putFlat, hopFlat}
 use Rattle.order.specs.Flat.{takeFrom as takeFromFlat, takeFlat, callFlat}
 use Rattle.order.specs.History.{listed}
 use Rattle.order.proofs.Flat.{there, gone}
-use Rattle.demands.specs.Calls.{Byte, numbers}
-use Rattle.demands.specs.Histories.{Got, got, if, Local, toLoad, calledBy, handedOver, acceptedBy, papers}
+use Rattle.demands.specs.Calls.{Byte, numbers, Local, load, status, wish, key, calledBy, localBy}
+use Rattle.demands.specs.Histories.{Got, hopTells, handedOver, acceptedBy, papers}
 use Rattle.demands.proofs.Refusals.{Told, no, yes}
 use Rattle.demands.proofs.Tests.{load-untold}
 
@@ -85,16 +85,14 @@ take-alike x = go (flat.link x (length (x .states))) refl
 
 -- ---- hop
 
--- the byte in a hop's answer
-abbrev pub handedIn : HopAnswer → List Got
-handedIn r = if (eqb (r .handed) 1) (got (r .byte) (r .end))
-
 abbrev Hopped : HopAnswer → Option Got → Type 0
-Hopped r h = (r .refusal ≡ 0) × (handedIn r ≡ listed h)
+Hopped r h = (r .refusal ≡ 0) × (hopTells r ≡ listed h)
 
 hop-tells : (f : ℕ) (h : Handed) → Hopped (hopAnswer f h) (handedOver h)
 hop-tells f handed.Nothing = (refl, refl)
 hop-tells f (handed.Byte b e) = (refl, refl)
+hop-tells f handed.Clear = (refl, refl)
+hop-tells f handed.Trigger = (refl, refl)
 
 pub hop-alike : (i : ℕ) (x : Flat papers) → Alike HopAnswer (Option Got) Hopped (hopIn i (loopFlat x)) (hopFlat x i)
 hop-alike = lined.hop-alike (λ d f. handedOver (takes d f .handed)) (λ d c. acceptedBy (calledBy c d)) Hopped
@@ -112,10 +110,10 @@ called-alike i x c = go (eqb (c .refusal) 0) refl
     go true e = both-do 0 _ (flat.setState i (c .device) x) tt refl refl
     go false e = both-refuse (c .refusal) (eqb-false (c .refusal) 0 e)
 
-pub local-alike : (c : Local) (i : ℕ) (x : Flat papers) →
+called-local : (c : Local) (i : ℕ) (x : Flat papers) →
     Alike ℕ (Unit {0}) Fine (localIn (calledBy c) i (loopFlat x)) (bare (callFlat x i c))
 unfolding localIn
-local-alike c i x = go (ltb i (length (x .states))) refl
+called-local c i x = go (ltb i (length (x .states))) refl
   where
     go : (t : Bool) → ltb i (length (x .states)) ≡ t →
         Alike ℕ (Unit {0}) Fine
@@ -130,8 +128,8 @@ load-refused : (o : Outcome ℕ) (k : ℕ) (p : Option (Flat papers × Unit {0})
 load-refused o k p (no j n) z (both-refuse j′ n′) = both-refuse 2 (λ e. omega arith)
 load-refused o k p (yes r m e) z t = absurd (z refl)
 
-pub load-alike : (i : ℕ) (bs : List Byte) (e : ℕ) (x : Flat papers) →
-    Alike ℕ (Unit {0}) Fine (loadIn i (numbers bs) e (loopFlat x)) (bare (callFlat x i (toLoad bs e)))
+load-alike : (i : ℕ) (bs : List Byte) (e : ℕ) (x : Flat papers) →
+    Alike ℕ (Unit {0}) Fine (loadIn i (numbers bs) e (loopFlat x)) (bare (callFlat x i (load bs e)))
 unfolding loadIn
 load-alike i bs e x = go (isChoice e) refl
   where
@@ -141,8 +139,15 @@ load-alike i bs e x = go (isChoice e) refl
 
     go : (t : Bool) → isChoice e ≡ t →
         Alike ℕ (Unit {0}) Fine (cond t (localIn (λ d. loads d (numbers bs) e) i (loopFlat x)) (refuse 2))
-        (bare (callFlat x i (toLoad bs e)))
-    go true q = local-alike (toLoad bs e) i x
+        (bare (callFlat x i (load bs e)))
+    go true q = called-local (load bs e) i x
     go false q =
         load-refused _ _ _ (load-untold i (numbers bs) e (loopFlat x) q) (three-or-two (leb (length (x .states)) i))
-        (local-alike (toLoad bs e) i x)
+        (called-local (load bs e) i x)
+
+pub local-alike : (c : Local) (i : ℕ) (x : Flat papers) →
+    Alike ℕ (Unit {0}) Fine (localBy c i (loopFlat x)) (bare (callFlat x i c))
+local-alike (load bs e) i x = load-alike i bs e x
+local-alike (status s) i x = called-local (status s) i x
+local-alike (wish w) i x = called-local (wish w) i x
+local-alike key i x = called-local key i x

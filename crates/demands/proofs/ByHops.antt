@@ -2,9 +2,9 @@
 -- same one is the highest at each turn; and each hop leaves and answers the same.
 use Prim.Native.Nat.{ℕ, zero, suc, _≤_, _<_}
 use mathlib.Core.Path.{_≡_, refl, sym, ap, _∙_}
-use mathlib.Core.Bool.{Bool, true, false, cond}
+use mathlib.Core.Bool.{Bool, true, false, not, cond}
 use mathlib.Core.Option.{Option, none, some}
-use mathlib.Core.List.{List}
+use mathlib.Core.List.{List, _++_}
 use native.Mathlib.Omega.{arith}
 use lib.Dec.{eqb}
 use borrow.Author.Tests.{lt-ltb, eq-eqb}
@@ -17,15 +17,15 @@ use Rattle.area.proofs.Laws.{area-back, loop-back, loop-sound}
 use Rattle.calls.specs.Outcome.{Outcome, refuse, done, After, after, loopAfter}
 use Rattle.calls.specs.Calls.{ofOldest, intoRoom, noHop, sentBy, passes, passesOn, hopIn}
 use Rattle.calls.specs.Drain as loop
-use Rattle.calls.specs.Drain.{noHopLeft, budgetSpent, noDrain, hasRoom, canFrom, canHop, stopped, handedTo, turned}
-use Rattle.calls.specs.Drain.{onPlace, drainFrom, drainIn}
+use Rattle.calls.specs.Drain.{noHopLeft, budgetSpent, noDrain, hasRoom, canFrom, canHop, stopped, handedTo}
+use Rattle.calls.specs.Drain.{reportedBy, turned, onPlace, drainFrom, drainIn}
 use Rattle.calls.specs.declared.HopAnswer.{HopAnswer}
 use Rattle.calls.specs.declared.DrainAnswer.{DrainAnswer}
 use Rattle.calls.proofs.Kept.{hop-keeps}
 use Rattle.calls.proofs.Outcomes.{IsDone}
 use Rattle.calls.proofs.Turns.{can-done}
 use Rattle.demands.specs.Calls.{hop, drain, onArea, Answer, hopped, drained, acts, pil, refusalIn}
-use Rattle.demands.specs.Histories.{got, if, handedBy}
+use Rattle.demands.specs.Histories.{got, reported, if, handedBy}
 use Rattle.demands.specs.Demands.{Judged}
 use Rattle.demands.specs.Drains.{can, highestOf, stopsBefore, onceHopped, byHops}
 use Rattle.demands.proofs.Tests.{size-is, hop-done}
@@ -97,15 +97,19 @@ module _ (l : Loop) (s : Sound-loop l) where
 
 module _ (b h i : ℕ)
     (rest : (m : Loop) → Sound-loop m → Comes (drainFrom b (suc h) m) (byHops pil b (suc h) (areaOf m))) where
-  byte-comes : (r : HopAnswer) (m : Loop) → Sound-loop m →
-      Comes (cond (eqb (r .handed) 1) (handedTo i (suc h) r m) (drainFrom b (suc h) m))
+  hop-told-comes : (r : HopAnswer) (m : Loop) → Sound-loop m →
+      Comes (cond (eqb (r .handed) 1) (handedTo i (suc h) r m)
+      (cond (eqb (r .event) 0) (drainFrom b (suc h) m) (reportedBy i (suc h) r m)))
       (onceHopped i (suc h) (byHops pil b (suc h)) (handedBy i (hop i) (hopped r)) (areaOf m))
-  byte-comes r m s = rw (eq-eqb i i refl) (go (eqb (r .handed) 1))
+  hop-told-comes r m s = rw (eq-eqb i i refl) (go (eqb (r .handed) 1) (eqb (r .event) 0))
     where
-      go : (t : Bool) → Comes (cond t (handedTo i (suc h) r m) (drainFrom b (suc h) m))
-          (onceHopped i (suc h) (byHops pil b (suc h)) (if t (got (r .byte) (r .end))) (areaOf m))
-      go true = refl
-      go false = rest m s
+      go : (t u : Bool) →
+          Comes (cond t (handedTo i (suc h) r m) (cond u (drainFrom b (suc h) m) (reportedBy i (suc h) r m)))
+          (onceHopped i (suc h) (byHops pil b (suc h))
+          (if t (got (r .byte) (r .end)) ++ if (not u) (reported (r .event))) (areaOf m))
+      go true u = refl
+      go false true = rest m s
+      go false false = refl
 
   hop-comes : (l : Loop) → Sound-loop l → i < size l → canHop i l ≡ true →
       Comes (turned i h (drainFrom b (suc h)) l (hopIn i l))
@@ -122,7 +126,7 @@ module _ (b h i : ℕ)
           (onceHopped i (suc h) (byHops pil b (suc h)) (handedBy i (hop i) ((settle hopped noHop l o) .1))
           (areaOf ((settle hopped noHop l o) .0)))
       go (refuse k) d k′ = absurd d
-      go (done r m) d k′ = byte-comes r m k′
+      go (done r m) d k′ = hop-told-comes r m k′
 
 -- ---- the drain
 

@@ -1,9 +1,9 @@
 -- The drain on a loop is the drain of its line: the same device hops at each turn, and both stop for the same reason.
 use Prim.Native.Nat.{ℕ, zero, suc, _+_}
 use mathlib.Core.Path.{_≡_, refl, ap, _∙_}
-use mathlib.Core.Bool.{Bool, true, false, cond, _&&_}
+use mathlib.Core.Bool.{Bool, true, false, not, cond, _&&_}
 use mathlib.Core.Option.{Option, none, some, Option·map}
-use mathlib.Core.List.{List, [], _∷_}
+use mathlib.Core.List.{List, [], _∷_, _++_}
 use native.Mathlib.Omega.{arith}
 use lib.Dec.{eqb}
 use lib.ListN.{length}
@@ -13,8 +13,8 @@ use Rattle.area.specs.declared.Room.{Room}
 use Rattle.area.specs.declared.Place.{Place}
 use Rattle.calls.specs.Outcome.{Outcome, done}
 use Rattle.calls.specs.Calls.{hopIn}
-use Rattle.calls.specs.Drain.{noHopLeft, budgetSpent, hasRoom, canFrom, canHop, highest, stopped, handedTo, turned}
-use Rattle.calls.specs.Drain.{onPlace, drainFrom}
+use Rattle.calls.specs.Drain.{noHopLeft, budgetSpent, hasRoom, canFrom, canHop, highest, stopped, handedTo}
+use Rattle.calls.specs.Drain.{reportedBy, turned, onPlace, drainFrom}
 use Rattle.calls.specs.declared.HopAnswer.{HopAnswer}
 use Rattle.calls.specs.declared.DrainAnswer.{DrainAnswer}
 use Rattle.calls.proofs.Lined.{both-do}
@@ -24,8 +24,8 @@ use Rattle.order.specs.Flat.{Flat}
 use Rattle.order.specs.History.{hopsMade, listed}
 use Rattle.order.proofs.Drain.{greatest-passes}
 use Rattle.order.proofs.Flat.{same-flat}
-use Rattle.demands.specs.Histories.{Got, got, if, papers}
-use Rattle.demands.proofs.Bridge.{loopFlat, toLoop, Alike, handedIn, hop-alike}
+use Rattle.demands.specs.Histories.{Got, got, reported, if, hopTells, papers}
+use Rattle.demands.proofs.Bridge.{loopFlat, toLoop, Alike, hop-alike}
 
 -- ---- who hops
 
@@ -64,8 +64,10 @@ highest-alike l = highest-up-to (flat.flat l) (size (toLoop l)) ∙ ap place (sa
 abbrev pub drainAnswer : ℕ → line.Stop papers → DrainAnswer
 drainAnswer h line.no-hop = record { hops = h; refusal = 0; reason = 0; device = 0; byte = 0; end = 0 }
 drainAnswer h line.spent = record { hops = h; refusal = 0; reason = 1; device = 0; byte = 0; end = 0 }
-drainAnswer h (line.handing i x) =
-    record { hops = h; refusal = 0; reason = 2; device = i; byte = x .byte; end = x .end }
+drainAnswer h (line.handing i (got b e)) =
+    record { hops = h; refusal = 0; reason = 2; device = i; byte = b; end = e }
+drainAnswer h (line.handing i (reported k)) =
+    record { hops = h; refusal = 0; reason = 3; device = i; byte = k; end = 0 }
 
 abbrev Drains : ℕ → Outcome DrainAnswer → line.Drained papers → Type 0
 Drains h o d = o ≡ done (drainAnswer (h + hopsMade (d .events)) (d .stop)) (toLoop (d .loop))
@@ -77,46 +79,41 @@ one-more h i b o d e =
     let z : suc h + hopsMade (d .events) ≡ h + (1 + hopsMade (d .events)) = omega arith in
     e ∙ ap (λ (n : ℕ). done (drainAnswer n (d .stop)) (toLoop (d .loop))) z
 
--- a hop that handed a byte, and one that did not
-handed-one : (r : HopAnswer) (x : Got) → handedIn r ≡ x ∷ [] → (eqb (r .handed) 1 ≡ true) × (got (r .byte) (r .end) ≡ x)
-handed-one r x e = go (eqb (r .handed) 1) e
-  where
-    go : (t : Bool) → if t (got (r .byte) (r .end)) ≡ x ∷ [] → (t ≡ true) × (got (r .byte) (r .end) ≡ x)
-    go true q = (refl, cc)
-    go false q = let z : _≡_ {A = ℕ} 0 1 = cc in absurd (omega arith)
-
-handed-none : (r : HopAnswer) → handedIn r ≡ [] → eqb (r .handed) 1 ≡ false
-handed-none r e = go (eqb (r .handed) 1) e
-  where
-    go : (t : Bool) → if t (got (r .byte) (r .end)) ≡ [] → t ≡ false
-    go true q = let z : _≡_ {A = ℕ} 0 1 = cc in absurd (omega arith)
-    go false q = refl
-
 -- one turn: device i hops, and then the rest is as the line's
 module _ (h i : ℕ) (next : Loop → Outcome DrainAnswer) (goOn : line.Loop papers → line.Drained papers)
     (rest : (m : line.Loop papers) → Drains (suc h) (next (toLoop m)) (goOn m)) where
-  byte-told : (m : line.Loop papers) (r : HopAnswer) (b : Option Got) → handedIn r ≡ listed b →
-      Drains h (cond (eqb (r .handed) 1) (handedTo i (suc h) r (toLoop m)) (next (toLoop m))) (line.afterHop i goOn m b)
-  byte-told m r none e = rw (handed-none r e) (one-more h i none _ (goOn m) (rest m))
-  byte-told m r (some x) e =
-      let p = handed-one r x e in
-      rw (p .0) (one-more h i (some x) _ (line.stopped m (line.handing i x))
-      (told (r .byte) (r .end) x (p .1)))
+  stop-told : (m : line.Loop papers) (x : Got) →
+      Drains h (done (drainAnswer (suc h) (line.handing i x)) (toLoop m)) (line.afterHop i goOn m (some x))
+  stop-told m x =
+      let z : suc h ≡ suc h + 0 = omega arith in
+      one-more h i (some x) _ (line.stopped m (line.handing i x))
+      (ap (λ (n : ℕ). done (drainAnswer n (line.handing i x)) (toLoop m)) z)
+
+  -- what the hop told is the one thing that happened at the device, or nothing
+  hop-said : (m : line.Loop papers) (r : HopAnswer) (b : Option Got) → hopTells r ≡ listed b →
+      Drains h (cond (eqb (r .handed) 1) (handedTo i (suc h) r (toLoop m))
+      (cond (eqb (r .event) 0) (next (toLoop m)) (reportedBy i (suc h) r (toLoop m)))) (line.afterHop i goOn m b)
+  hop-said m r b e = go b (eqb (r .handed) 1) (eqb (r .event) 0) e
     where
-      told : (b f : ℕ) (x : Got) → got b f ≡ x →
-          done (record { hops = suc h; refusal = 0; reason = 2; device = i; byte = b; end = f }) (toLoop m)
-          ≡ done (drainAnswer (suc h + 0) (line.handing i x)) (toLoop m)
-      told b f x q =
-          let z : suc h ≡ suc h + 0 = omega arith in
-          ap (λ (n : ℕ). done (drainAnswer n (line.handing i (got b f))) (toLoop m)) z
-          ∙ ap (λ (y : Got). done (drainAnswer (suc h + 0) (line.handing i y)) (toLoop m)) q
+      go : (b : Option Got) (t u : Bool) →
+          (if t (got (r .byte) (r .end)) ++ if (not u) (reported (r .event))) ≡ listed b →
+          Drains h (cond t (handedTo i (suc h) r (toLoop m))
+          (cond u (next (toLoop m)) (reportedBy i (suc h) r (toLoop m)))) (line.afterHop i goOn m b)
+      go none false true e = one-more h i none _ (goOn m) (rest m)
+      go none true u e = absurd (omega (arith, ap length e))
+      go none false false e = absurd (omega (arith, ap length e))
+      go (some x) true true e =
+          let q : got (r .byte) (r .end) ≡ x = cc in rw (← q) (stop-told m (got (r .byte) (r .end)))
+      go (some x) true false e = absurd (omega (arith, ap length e))
+      go (some x) false true e = absurd (omega (arith, ap length e))
+      go (some x) false false e = let q : reported (r .event) ≡ x = cc in rw (← q) (stop-told m (reported (r .event)))
 
   hop-turned : (l : line.Loop papers) (o : Outcome HopAnswer) (p : Option (line.Loop papers × Option Got)) →
-      Alike HopAnswer (Option Got) (λ r b. (r .refusal ≡ 0) × (handedIn r ≡ listed b)) o
+      Alike HopAnswer (Option Got) (λ r b. (r .refusal ≡ 0) × (hopTells r ≡ listed b)) o
       (Option·map (λ q. (flat.flat (q .0), q .1)) p) →
       line.accepts p ≡ true → Drains h (turned i h next (toLoop l) o) (line.hopOn i goOn l p)
   hop-turned l o none u a = let z : false ≡ true = a in let y : _≡_ {A = ℕ} 0 1 = cc in absurd (omega arith)
-  hop-turned l o (some q) (both-do r m x b e t) a = rw e (byte-told (q .0) r (q .1) (t .1))
+  hop-turned l o (some q) (both-do r m x b e t) a = rw e (hop-said (q .0) r (q .1) (t .1))
 
 pub drained-alike : (b h : ℕ) (l : line.Loop papers) → Drains h (drainFrom b h (toLoop l)) (line.draining b l)
 unfolding drainFrom

@@ -13,11 +13,10 @@ use Rattle.frame.specs.Coding.{decodeOf, inList, encodeOf}
 use Rattle.frame.specs.declared.Decoded.the-variants as decoder
 use Rattle.frame.specs.declared.Encoded.the-variants as encoder
 use Rattle.coding.specs.Coding.{decodedAs, encodedAs}
-use Rattle.record_local.specs.Local.{setsStatus, wishes}
 use Rattle.record.specs.Sound.{only, allowed}
 use Rattle.area.specs.Sizes.{areaSize, mostDevices, itemSize}
 use Rattle.area.specs.Parts.{parts, all}
-use Rattle.area.specs.Loop.{countIn, loopOf, areaOf, shaped, sound, device}
+use Rattle.area.specs.Loop.{Loop, countIn, loopOf, areaOf, shaped, sound, device}
 use Rattle.calls.specs.Outcome.{After, after, reads}
 use Rattle.calls.specs.Calls.{noTake, noHop, refusal, putIn, takeIn, hopIn, localIn, loadIn}
 use Rattle.calls.specs.Drain.{noDrain, drainIn}
@@ -27,9 +26,10 @@ use Rattle.calls.specs.SetUp.{devicesFor, itemsFit, poweredOn, setUpOf, setUpWi
 use Rattle.saved.specs.Saved.{saved, savedSize, savedCount, savedDevices, formed, contents}
 use Rattle.saved.specs.Older.{old, zeroChoiceIn, opened, soundSave}
 use Rattle.saved.specs.Calls.{saveOf, saveWith, openWith}
-use Rattle.demands.specs.Calls.{Byte, numbers, Action, put, hop, take, load, status, wish, drain, owes, save}
-use Rattle.demands.specs.Calls.{Call, onArea, setUp, opens, decode, encode, Answer, plain, hopped, taken}
-use Rattle.demands.specs.Calls.{drained, owing, saving, decoded, encoded, told, pil, refusalIn, bare, acts}
+use Rattle.demands.specs.Calls.{Byte, numbers, Local, load, status, wish, key, calledBy, localBy, Action}
+use Rattle.demands.specs.Calls.{put, hop, take, local, drain, owes, save, Call, onArea, setUp, opens}
+use Rattle.demands.specs.Calls.{decode, encode, Answer, plain, hopped, taken, drained, owing, saving, decoded}
+use Rattle.demands.specs.Calls.{encoded, told, pil, refusalIn, bare, acts}
 use Rattle.demands.specs.Conditions.{devicesAt, oldWithChoice, badC1, BadFrame, due}
 use Rattle.demands.specs.Demands.{Demand1}
 use Rattle.demands.proofs.Away.{whole}
@@ -97,29 +97,33 @@ module _ (a : List ℕ) where
   either-two false s k = refl
 
   load-held : (i : ℕ) (bs : List Byte) (e : ℕ) →
-      Held (onArea (load i bs e)) a (pil (onArea (load i bs e)) a) (due (onArea (load i bs e)) a)
+      Held (onArea (local i (load bs e))) a (pil (onArea (local i (load bs e))) a)
+      (due (onArea (local i (load bs e))) a)
   unfolding rows
   load-held i bs e =
       let t = rw (size-is a) at (load-told i (numbers bs) e (loopOf a)) in
       let m = call-met refusal refusal (λ k. refl) a (loadIn i (numbers bs) e) _ t in
       let p = plainly _ m in
-      rw (either-two (ltb 1 e) (sound a)) at (held (load i bs e) _ (record { refused = p .0; unchanged = p .1 }))
+      rw (either-two (ltb 1 e) (sound a)) at
+      (held (local i (load bs e)) _ (record { refused = p .0; unchanged = p .1 }))
 
-  status-held : (i : ℕ) (s : Byte) →
-      Held (onArea (status i s)) a (pil (onArea (status i s)) a) (due (onArea (status i s)) a)
-  unfolding rows
-  status-held i s =
-      let t = rw (size-is a, status-refusal (device (loopOf a) i) (s .value)) at
-      (local-told (λ d. setsStatus d (s .value)) i (loopOf a)) in
-      let m = call-met refusal refusal (λ k. refl) a (localIn (λ d. setsStatus d (s .value)) i) _ t in
-      let p = plainly _ m in held (status i s) _ (record { refused = p .0; unchanged = p .1 })
+  -- a local call that only the device refuses, with k
+  called-held : (i : ℕ) (c : Local) (k : ℕ) → ((l : Loop) → localBy c i l ≡ localIn (calledBy c) i l) →
+      calledBy c (device (loopOf a) i) .refusal ≡ k →
+      Held (onArea (local i c)) a (pil (onArea (local i c)) a) (rows (cond (leb (countIn a) i) 3 k))
+  called-held i c k same e =
+      let t = rw (size-is a, e, ← same (loopOf a)) at (local-told (calledBy c) i (loopOf a)) in
+      let m = call-met refusal refusal (λ k. refl) a (localBy c i) _ t in
+      let p = plainly _ m in held (local i c) _ (record { refused = p .0; unchanged = p .1 })
 
-  wish-held : (i w : ℕ) → Held (onArea (wish i w)) a (pil (onArea (wish i w)) a) (due (onArea (wish i w)) a)
+  local-held : (i : ℕ) (c : Local) →
+      Held (onArea (local i c)) a (pil (onArea (local i c)) a) (due (onArea (local i c)) a)
   unfolding rows
-  wish-held i w =
-      let t = rw (size-is a, wish-refusal (device (loopOf a) i) w) at (local-told (λ d. wishes d w) i (loopOf a)) in
-      let m = call-met refusal refusal (λ k. refl) a (localIn (λ d. wishes d w) i) _ t in
-      let p = plainly _ m in held (wish i w) _ (record { refused = p .0; unchanged = p .1 })
+  local-held i (load bs e) = load-held i bs e
+  local-held i (status s) =
+      called-held i (status s) _ (λ l. refl) (status-refusal (device (loopOf a) i) (s .value))
+  local-held i (wish w) = called-held i (wish w) _ (λ l. refl) (wish-refusal (device (loopOf a) i) w)
+  local-held i key = called-held i key 0 (λ l. refl) refl
 
   drain-held : (b : ℕ) → Held (onArea (drain b)) a (pil (onArea (drain b)) a) (due (onArea (drain b)) a)
   unfolding rows
@@ -161,9 +165,7 @@ module _ (a : List ℕ) where
   action-held (put f) = put-held f
   action-held (hop i) = hop-held i
   action-held take = take-held
-  action-held (load i bs e) = load-held i bs e
-  action-held (status i s) = status-held i s
-  action-held (wish i w) = wish-held i w
+  action-held (local i c) = local-held i c
   action-held (drain b) = drain-held b
   action-held owes = owes-held
   action-held (save out) = save-held out

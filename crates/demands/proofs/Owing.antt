@@ -26,11 +26,11 @@ use Rattle.order.specs.Through.{callsOf}
 use Rattle.order.proofs.Owed as order-proofs
 use Rattle.order.proofs.Owed.{owed-law}
 use Rattle.order.proofs.Idle.{idle-owed}
-use Rattle.demands.specs.Calls.{numbers, Action, put, hop, take, load, status, wish, drain, onArea, opens, Answer}
+use Rattle.demands.specs.Calls.{numbers, Action, put, hop, take, local, drain, onArea, opens, Answer}
 use Rattle.demands.specs.Calls.{acts, refusalIn}
 use Rattle.demands.specs.Conditions.{devicesAt, badOutput, noChoice}
-use Rattle.demands.specs.Histories.{Step, call, putBy, hopsBy, areaLeft, framesPut, hopsMade, toLoad, toStatus}
-use Rattle.demands.specs.Histories.{toWish, papers, calls, lineOf}
+use Rattle.demands.specs.Histories.{Step, call, putBy, hopsBy, areaLeft, framesPut, hopsMade, papers}
+use Rattle.demands.specs.Histories.{calls, lineOf}
 use Rattle.demands.specs.Demands.{Judged, hopsOwed, OwedAfterHop, OwedAfterDrain, OwedAfterPut, OwedAfterTake}
 use Rattle.demands.specs.Demands.{OwedAfterLocalCall, OwedAfterRefusal, OwedAfterSetUp, OwedAfterOpening}
 use Rattle.demands.specs.Demands.{StaysJudged, OwedAtMost, OwedOver, HopsAtMost, Progress, hop-accepted}
@@ -153,9 +153,7 @@ pub owed-after-take : OwedAfterTake
 owed-after-take a bytes = quiet take a bytes refl refl
 
 pub owed-after-local-call : OwedAfterLocalCall
-owed-after-local-call (toLoad bs e) i a bytes = quiet (load i bs e) a bytes refl refl
-owed-after-local-call (toStatus s) i a bytes = quiet (status i s) a bytes refl refl
-owed-after-local-call (toWish w) i a bytes = quiet (wish i w) a bytes refl refl
+owed-after-local-call c i a bytes = quiet (local i c) a bytes refl refl
 
 -- ---- some hop or the take is accepted: the line's is
 

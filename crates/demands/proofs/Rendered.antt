@@ -8,15 +8,15 @@ use native.Mathlib.Omega.{arith}
 use lib.Dec.{ltb}
 use borrow.Author.Tests.{lt-ltb, ltb-true}
 use Rattle.frame.specs.Messages.{frames}
-use Rattle.record_local.specs.Local.{setsStatus, wishes}
 use Rattle.record.specs.Fits.{Bytes}
 use Rattle.area.specs.Loop.{Loop, areaOf, Sound-loop}
 use Rattle.area.proofs.Laws.{loop-back, area-sound}
 use Rattle.calls.specs.Outcome.{Outcome, refuse, done, loopAfter}
-use Rattle.calls.specs.Calls.{noHop, noTake, refusal, putIn, takeIn, hopIn, localIn, loadIn}
+use Rattle.calls.specs.Calls.{noHop, noTake, refusal, putIn, takeIn, hopIn}
 use Rattle.calls.specs.Drain.{noDrain, drainIn}
 use Rattle.calls.proofs.Kept.{put-keeps, take-keeps, hop-keeps, drain-keeps}
-use Rattle.calls.proofs.Laws.{load-keeps, status-keeps, wish-keeps}
+use Rattle.calls.specs.Laws.{Keeps}
+use Rattle.calls.proofs.Laws.{load-keeps, status-keeps, wish-keeps, key-keeps}
 use Rattle.order.specs.Line as line
 use Rattle.order.specs.History as told
 use Rattle.order.specs.Through as order
@@ -24,11 +24,11 @@ use Rattle.order.specs.Through.{Rendering, Writing, Every, FairCall, Tells, cal
 use Rattle.order.proofs.Flat.{same-flat}
 use Rattle.order.proofs.Through.{through, read-each, read-total}
 use Rattle.order.proofs.Turns.{calls-each}
-use Rattle.demands.specs.Calls.{Byte, numbers, Action, put, hop, take, load, status, wish, drain, owes, save}
-use Rattle.demands.specs.Calls.{Answer, plain, hopped, taken, drained}
+use Rattle.demands.specs.Calls.{Byte, numbers, Local, load, status, wish, key, localBy, Action, put, hop}
+use Rattle.demands.specs.Calls.{take, local, drain, owes, save, Answer, plain, hopped, taken, drained}
 use Rattle.demands.specs.Histories.{Step, call, away, putAway, stepped, history, if, putBy, takenBy, handedBy}
-use Rattle.demands.specs.Histories.{hopsBy, ofCall, each, total, areaLeft, framesPut, framesTaken, bytesHanded}
-use Rattle.demands.specs.Histories.{hopsMade, toLoad, toStatus, toWish, papers, calls, stepCalls, allCalls}
+use Rattle.demands.specs.Histories.{hopsBy, ofCall, each, total, areaLeft, framesPut, framesTaken, allHanded}
+use Rattle.demands.specs.Histories.{hopsMade, papers, calls, stepCalls, allCalls}
 use Rattle.demands.specs.Histories.{lineOf, turnsOf, callSeen, turnSeen, Drainless, turnsSeen, callsSeen, action}
 use Rattle.demands.proofs.Away.{away-stays}
 use Rattle.demands.proofs.Bridge.{toLoop}
@@ -41,6 +41,12 @@ numbers-bytes [] i = omega arith
 numbers-bytes (b ∷ bs) zero = b .small
 numbers-bytes (b ∷ bs) (suc i) = numbers-bytes bs i
 
+local-keeps : (c : Local) (i : ℕ) → Keeps (localBy c i)
+local-keeps (load bs e) i = load-keeps i (numbers bs) e (numbers-bytes bs)
+local-keeps (status s) i = status-keeps i (s .value) (s .small)
+local-keeps (wish w) i = wish-keeps i w
+local-keeps key i = key-keeps i
+
 settle-sound : {A : Type 0} (kind : A → Answer) (deny : ℕ → A) (m : Loop) (o : Outcome A) →
     Sound-loop (loopAfter m o) → Sound-loop ((settle kind deny m o) .0)
 settle-sound kind deny m (refuse k) s = s
@@ -50,11 +56,7 @@ pub on-loop-sound : (c : Action) (m : Loop) → Sound-loop m → Sound-loop ((on
 on-loop-sound (put f) m s = settle-sound plain refusal m (putIn f m) (put-keeps f m s .sound)
 on-loop-sound (hop i) m s = settle-sound hopped noHop m (hopIn i m) (hop-keeps i m s .sound)
 on-loop-sound take m s = settle-sound taken noTake m (takeIn m) (take-keeps m s .sound)
-on-loop-sound (load i bs e) m s = settle-sound plain refusal m (loadIn i (numbers bs) e m)
-    (load-keeps i (numbers bs) e (numbers-bytes bs) m s .sound)
-on-loop-sound (status i x) m s = settle-sound plain refusal m (localIn (λ d. setsStatus d (x .value)) i m)
-    (status-keeps i (x .value) (x .small) m s .sound)
-on-loop-sound (wish i w) m s = settle-sound plain refusal m (localIn (λ d. wishes d w) i m) (wish-keeps i w m s .sound)
+on-loop-sound (local i c) m s = settle-sound plain refusal m (localBy c i m) (local-keeps c i m s .sound)
 on-loop-sound (drain b) m s = settle-sound drained noDrain m (drainIn b m) (drain-keeps b m s .sound)
 on-loop-sound owes m s = s
 on-loop-sound (save out) m s = s
@@ -103,9 +105,7 @@ pub writes : (c : line.Call papers) → FairCall (λ f. f < frames) c → calls 
 writes (line.put f) h = rw (lt-ltb f frames h)
 writes (line.hop i) h = refl
 writes line.take h = refl
-writes (line.local i (toLoad bs e)) h = refl
-writes (line.local i (toStatus s)) h = refl
-writes (line.local i (toWish w)) h = refl
+writes (line.local i c) h = refl
 writes (line.drain b) h = refl
 
 pub puts-fair : (f : ℕ) → Every (FairCall {L = papers} (λ g. g < frames)) (if (ltb f frames) (line.put f))
@@ -119,9 +119,7 @@ pub fairs : (c : Action) → Every (FairCall {L = papers} (λ f. f < frames)) (c
 fairs (put f) = puts-fair f
 fairs (hop i) = (tt, tt)
 fairs take = (tt, tt)
-fairs (load i bs e) = (tt, tt)
-fairs (status i s) = (tt, tt)
-fairs (wish i w) = (tt, tt)
+fairs (local i c) = (tt, tt)
 fairs (drain b) = (tt, tt)
 fairs owes = tt
 fairs (save out) = tt
@@ -211,7 +209,7 @@ module _ (l : line.Loop papers) (good : Sound-loop (toLoop l)) where
     pub taken-are : framesTaken (areaOf (toLoop l)) ss ≡ told.taken ((line.run l (callsOf R ss)) .1)
     taken-are = read takenBy (λ e. told.takenBy e) (λ m c. follows c m .reads .taken)
 
-    pub handed-are : (i : ℕ) → bytesHanded (areaOf (toLoop l)) ss i ≡ told.handed ((line.run l (callsOf R ss)) .1) i
+    pub handed-are : (i : ℕ) → allHanded (areaOf (toLoop l)) ss i ≡ told.handed ((line.run l (callsOf R ss)) .1) i
     handed-are i = read (handedBy i) (λ e. told.handedBy i e) (λ m c. follows c m .reads .handed i)
 
     pub hops-are : hopsMade (areaOf (toLoop l)) ss ≡ told.hopsMade ((line.run l (callsOf R ss)) .1)

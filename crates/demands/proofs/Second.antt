@@ -16,7 +16,11 @@ use Rattle.frame.specs.declared.Encoded.the-variants as encoder
 use Rattle.frame.specs.Coding.{decodeOf, inList, encodeOf}
 use Rattle.frame.proofs.Laws.{decode-encode, encode-decode, kind-zero}
 use Rattle.device.specs.Take.{takes}
-use Rattle.device.proofs.Sentences.{end-where-asked, end-only-asked}
+use Rattle.device.proofs.Sentences.{end-where-asked, end-only-asked, events-reported, events-change-nothing}
+use Rattle.device.proofs.Sentences.{others-leave-remote, ifc-leaves-remote, only-enabled, gtl-only-listener}
+use Rattle.device.proofs.Sentences.{key-only-unlocked}
+use Rattle.device.proofs.RemoteTable.{remote-table}
+use Rattle.record.proofs.Laws.{any-remote}
 use Rattle.device.specs.declared.Device.{Device}
 use Rattle.area.specs.Sizes.{depth, linkSize, linkAt}
 use Rattle.area.specs.Link.{linkOf}
@@ -43,7 +47,7 @@ use Rattle.demands.specs.Calls.{Byte, numbers, hop, owes, save, onArea, 
 use Rattle.demands.specs.Calls.{hopped, owing, saving, decoded, encoded, told, acts, pil}
 use Rattle.demands.specs.Conditions.{devicesAt, due}
 use Rattle.demands.specs.Demands.{CanHop, ruled, recordTaken, linkLess, hopLeaves, hopsOwed, Demand2, SavedLoops}
-use Rattle.demands.specs.Demands.{EndByChoice}
+use Rattle.demands.specs.Demands.{EndByChoice, RemoteLocal}
 use Rattle.demands.proofs.Away.{whole, save-leaves, open-leaves}
 use Rattle.demands.proofs.Tests.{size-is}
 use Rattle.demands.proofs.First.{outside, demand-1, sets-up}
@@ -202,3 +206,17 @@ saved-loops =
 pub end-by-choice : EndByChoice
 end-by-choice =
     record { where-asked = end-where-asked; only-asked = end-only-asked; old-opens = saved-laws.old-opens }
+
+pub remote-local : RemoteLocal
+remote-local =
+    record {
+      events-reported = events-reported;
+      events-change-nothing = events-change-nothing;
+      table = remote-table;
+      others-leave-remote = others-leave-remote;
+      ifc-leaves-remote = ifc-leaves-remote;
+      only-enabled = only-enabled;
+      gtl-only-listener = gtl-only-listener;
+      key-only-unlocked = key-only-unlocked;
+      any-remote = any-remote;
+    }

@@ -2,18 +2,17 @@
 -- the loop that it leaves, and in what is read off its answer.
 use Prim.Native.Nat.{ℕ, zero, suc, _+_}
 use mathlib.Core.Path.{_≡_, refl, sym, ap, _∙_}
-use mathlib.Core.Bool.{Bool, true, false, cond, _&&_, and-false}
+use mathlib.Core.Bool.{Bool, true, false, cond, _&&_, and-true, and-false}
 use mathlib.Core.Option.{Option, none, some, Option·map}
 use mathlib.Core.List.{List, [], _∷_, map, append-nil}
 use native.Mathlib.Omega.{arith}
 use lib.Dec.{eqb, ltb}
 use borrow.Author.Tests.{eq-eqb, ne-eqb, ltb-true, eqb-true, eqb-false}
 use Rattle.frame.specs.Messages.{frames}
-use Rattle.record_local.specs.Local.{setsStatus, wishes}
 use Rattle.area.specs.Loop.{Loop, areaOf, Sound-loop}
 use Rattle.area.proofs.Laws.{loop-back, area-sound}
 use Rattle.calls.specs.Outcome.{Outcome, refuse, done, After, after, afterOf, callOf, callWith, reads}
-use Rattle.calls.specs.Calls.{refusal, noHop, noTake, putIn, takeIn, hopIn, localIn, loadIn}
+use Rattle.calls.specs.Calls.{refusal, noHop, noTake, putIn, takeIn, hopIn}
 use Rattle.calls.specs.Drain.{noDrain, drainIn}
 use Rattle.calls.specs.Owed.{noOwed, owedIn}
 use Rattle.calls.specs.declared.HopAnswer.{HopAnswer}
@@ -29,12 +28,11 @@ use Rattle.order.proofs.Drain.{none-same, drain-is-hops, drain-stops}
 use Rattle.order.proofs.Through.{each-append}
 use Rattle.order.proofs.Turns.{here, elsewhere}
 use Rattle.saved.specs.Calls.{saveOf}
-use Rattle.demands.specs.Calls.{numbers, Action, put, hop, take, load, status, wish, drain, owes, save, Answer}
+use Rattle.demands.specs.Calls.{numbers, Local, localBy, Action, put, hop, take, local, drain, owes, save, Answer}
 use Rattle.demands.specs.Calls.{plain, hopped, taken, drained, owing, saving, acts}
-use Rattle.demands.specs.Histories.{call, Got, got, if, putBy, takenBy, handedBy, hopsBy, refusedBy, Local}
-use Rattle.demands.specs.Histories.{toLoad, toStatus, toWish, papers, calls, hopSeen, callSeen, turnSeen, isDrain}
-use Rattle.demands.proofs.Bridge.{toLoop, Alike, handedIn, put-alike, take-alike}
-use Rattle.demands.proofs.Bridge.{hop-alike, local-alike, load-alike}
+use Rattle.demands.specs.Histories.{call, Got, got, reported, if, hopTells, putBy, takenBy, handedBy, hopsBy}
+use Rattle.demands.specs.Histories.{refusedBy, papers, calls, hopSeen, callSeen, turnSeen, isDrain}
+use Rattle.demands.proofs.Bridge.{toLoop, Alike, put-alike, take-alike, hop-alike, local-alike}
 use Rattle.demands.proofs.Drains.{drainAnswer, drained-alike}
 
 -- ---- on the loop
@@ -48,9 +46,7 @@ abbrev pub onLoop : Action → Loop → Loop × Answer
 onLoop (put f) m = settle plain refusal m (putIn f m)
 onLoop (hop i) m = settle hopped noHop m (hopIn i m)
 onLoop take m = settle taken noTake m (takeIn m)
-onLoop (load i bs e) m = settle plain refusal m (loadIn i (numbers bs) e m)
-onLoop (status i s) m = settle plain refusal m (localIn (λ d. setsStatus d (s .value)) i m)
-onLoop (wish i w) m = settle plain refusal m (localIn (λ d. wishes d w) i m)
+onLoop (local i c) m = settle plain refusal m (localBy c i m)
 onLoop (drain b) m = settle drained noDrain m (drainIn b m)
 onLoop owes m = (m, owing (owedIn m))
 onLoop (save out) m = (m, saving (saveOf (areaOf m) (numbers out) .answer) (saveOf (areaOf m) (numbers out) .area))
@@ -76,9 +72,7 @@ module _ (m : Loop) (s : Sound-loop m) where
   acts-on (put f) = settled plain refusal (putIn f)
   acts-on (hop i) = settled hopped noHop (hopIn i)
   acts-on take = settled taken noTake takeIn
-  acts-on (load i bs e) = settled plain refusal (loadIn i (numbers bs) e)
-  acts-on (status i x) = settled plain refusal (localIn (λ d. setsStatus d (x .value)) i)
-  acts-on (wish i w) = settled plain refusal (localIn (λ d. wishes d w) i)
+  acts-on (local i c) = settled plain refusal (localBy c i)
   acts-on (drain b) = settled drained noDrain (drainIn b)
   acts-on owes = (refl, (settled owing noOwed (reads owedIn)) .1)
   acts-on (save out) = (refl, refl)
@@ -91,9 +85,7 @@ abbrev pub fair : Action → Bool
 fair (put f) = ltb f frames
 fair (hop i) = true
 fair take = true
-fair (load i bs e) = true
-fair (status i s) = true
-fair (wish i w) = true
+fair (local i c) = true
 fair (drain b) = true
 fair owes = true
 fair (save out) = false
@@ -123,12 +115,12 @@ is-if : {A : Type 0} (k : ℕ) (x : A) → k ≡ 0 → if (eqb k 0) x ≡ x ∷ 
 is-if k x h = rw (eq-eqb k 0 h)
 
 -- the same device, or another
-same-device : {A : Type 0} (i j : ℕ) (t : Bool) (x : A) → if (eqb i j && t) x ≡ ifSame i j (if t x)
-same-device i j t x = go (eqb i j) refl
+same-device : {A : Type 0} (i j : ℕ) (xs : List A) → cond (eqb i j) xs [] ≡ ifSame i j xs
+same-device i j xs = go (eqb i j) refl
   where
-    go : (s : Bool) → eqb i j ≡ s → if (s && t) x ≡ ifSame i j (if t x)
-    go true e = let z : i ≡ j = eqb-true i j e in rw z (sym (here j (if t x)))
-    go false e = sym (elsewhere i j (if t x) (eqb-false i j e))
+    go : (s : Bool) → eqb i j ≡ s → cond s xs [] ≡ ifSame i j xs
+    go true e = let z : i ≡ j = eqb-true i j e in rw z (sym (here j xs))
+    go false e = sym (elsewhere i j xs (eqb-false i j e))
 
 -- what is made of nothing where the numbers differ
 same-map : {A B : Type 0} (g : List A → List B) (i j : ℕ) (xs : List A) → g [] ≡ [] →
@@ -143,7 +135,7 @@ refused-same : {A : Type 0} (i j k : ℕ) (x : A) → (k ≡ 0 → ⊥) → if (
 refused-same i j k x h = rw (ne-eqb k 0 h, and-false (eqb i j))
 
 accepted-same : {A : Type 0} (i j k : ℕ) (x : A) → k ≡ 0 → if (eqb i j && eqb k 0) x ≡ ifSame i j (x ∷ [])
-accepted-same i j k x h = rw (eq-eqb k 0 h) (same-device i j true x)
+accepted-same i j k x h = rw (eq-eqb k 0 h, and-true (eqb i j)) (same-device i j (x ∷ []))
 
 -- put
 put-follows : (f : ℕ) (l : line.Loop papers) (o : Outcome ℕ) (p : Option (line.Loop papers)) → ltb f frames ≡ true →
@@ -180,42 +172,38 @@ put-follows f l o (some q) h (both-do r m x b e t) =
     }
 
 -- a local call, whichever it is
-module _ (c : Action) (i : ℕ) (x : Local) (fine : fair c ≡ true) (quiet : (k : ℕ) → putBy c (plain k) ≡ [])
-    (calls : (j k : ℕ) → callSeen j c (plain k) ≡ if (eqb j i && eqb k 0) x)
-    (still : (j k : ℕ) → hopSeen j c (plain k) ≡ []) where
+module _ (i : ℕ) (x : Local) where
   local-follows : (l : line.Loop papers) (o : Outcome ℕ) (p : Option (line.Loop papers)) →
       Alike ℕ (Unit {0}) (λ r b. r ≡ 0) o (Option·map (λ y. (y, tt)) (Option·map (λ l′. flat.flat l′) p)) →
-      Follows c l (settle plain refusal (toLoop l) o)
+      Follows (local i x) l (settle plain refusal (toLoop l) o)
       (line.firstly ((line.reply l (Option·map (λ l′. (l′, line.called i x)) p)) .1)
       ((line.reply l (Option·map (λ l′. (l′, line.called i x)) p)) .0, []))
   local-follows l o none (both-refuse k z) =
       record {
         loop = refl;
         reads = record {
-          puts = quiet k;
+          puts = refl;
           taken = refl;
           handed = λ j. refl;
-          called = λ j. calls j k ∙ refused-same j i k x z;
-          turned = λ q j. rw (still j k, calls j k, refused-same j i k x z);
+          called = λ j. refused-same j i k x z;
+          turned = λ q j. rw (refused-same j i k x z);
           hops = refl;
-          refused = rw fine
-              (not-zero k z);
+          refused = not-zero k z;
         };
       }
   local-follows l o (some q) (both-do r m y b e t) =
       record {
         loop = e;
         reads = record {
-          puts = quiet r;
+          puts = refl;
           taken = refl;
           handed = λ j. refl;
-          called = λ j. calls j r ∙ accepted-same j i r x t
+          called = λ j. accepted-same j i r x t
               ∙ sym (append-nil _ ∙ same-map (λ u. told.callsIn u) j i (told.does x ∷ []) refl);
-          turned = λ q j. rw (still j r, calls j r, accepted-same j i r x t)
+          turned = λ q j. rw (accepted-same j i r x t)
               (same-map (λ u. map (λ (y : Local). told.does y) u) j i (x ∷ []) refl ∙ sym (append-nil _));
           hops = refl;
-          refused = rw
-              (fine, t);
+          refused = rw t;
         };
       }
 
@@ -255,7 +243,7 @@ take-follows l o (some q) (both-do r m x b e t) =
     }
 
 hop-follows : (j : ℕ) (l : line.Loop papers) (o : Outcome HopAnswer) (p : Option (line.Loop papers × Option Got)) →
-    Alike HopAnswer (Option Got) (λ r b. (r .refusal ≡ 0) × (handedIn r ≡ listed b)) o
+    Alike HopAnswer (Option Got) (λ r b. (r .refusal ≡ 0) × (hopTells r ≡ listed b)) o
     (Option·map (λ q. (flat.flat (q .0), q .1)) p) →
     Follows (hop j) l (settle hopped noHop (toLoop l) o)
     (line.firstly ((line.reply l (Option·map (λ q. (q .0, line.hopped j (q .1))) p)) .1)
@@ -266,8 +254,7 @@ hop-follows j l o none (both-refuse k z) =
       reads = record {
         puts = refl;
         taken = refl;
-        handed = λ i. same-device i j false (got 0 0)
-            ∙ none-same i j;
+        handed = λ i. same-device {A = Got} i j [] ∙ none-same i j;
         called = λ i. refl;
         turned = λ q i. rw (refused-same {A = told.Turn papers} i j k told.hops z);
         hops = rw (ne-eqb k 0 z);
@@ -281,8 +268,8 @@ hop-follows j l o (some q) (both-do r m x b e t) =
           record {
             puts = refl;
             taken = refl;
-            handed = λ i. same-device i j (eqb (r .handed) 1) (got (r .byte) (r .end))
-                ∙ ap (λ (g : List Got). ifSame i j g) (t .1) ∙ sym (append-nil (ifSame i j (listed (q .1))));
+            handed = λ i. same-device i j (hopTells r) ∙ ap (λ (g : List Got). ifSame i j g) (t .1)
+                ∙ sym (append-nil (ifSame i j (listed (q .1))));
             called = λ i. sym (append-nil _
                 ∙ same-map (λ (u : List (told.Turn papers)). told.callsIn u) i j (told.hops ∷ []) refl
                 ∙ none-same i j);
@@ -317,9 +304,10 @@ module _ {A : Type 0} (g : line.Event papers → List A) (never : g line.refused
 
 handed-at : (i h b : ℕ) (why : line.Stop papers) →
     handedBy i (drain b) (drained (drainAnswer h why)) ≡ handedAt papers i why
-handed-at i h b line.no-hop = rw (and-false (eqb i 0))
-handed-at i h b line.spent = rw (and-false (eqb i 0))
-handed-at i h b (line.handing j x) = same-device i j true x
+handed-at i h b line.no-hop = same-device {A = Got} i 0 [] ∙ none-same i 0
+handed-at i h b line.spent = same-device {A = Got} i 0 [] ∙ none-same i 0
+handed-at i h b (line.handing j (got x e)) = same-device i j (got x e ∷ [])
+handed-at i h b (line.handing j (reported k)) = same-device i j (reported k ∷ [])
 
 drain-follows : (b : ℕ) (l : line.Loop papers) →
     Follows (drain b) l (settle drained noDrain (toLoop l) (drainIn b (toLoop l))) (line.run l (line.drain b ∷ []))
@@ -348,13 +336,15 @@ drain-follows b l =
     hops-told : (n : ℕ) (why : line.Stop papers) → drainAnswer (0 + n) why .hops ≡ n
     hops-told n line.no-hop = omega arith
     hops-told n line.spent = omega arith
-    hops-told n (line.handing j x) = omega arith
+    hops-told n (line.handing j (got x e)) = omega arith
+    hops-told n (line.handing j (reported k)) = omega arith
 
     refused-told : (n : ℕ) (why : line.Stop papers) →
         _≡_ {A = ℕ} (cond (eqb (drainAnswer (0 + n) why .refusal) 0) 0 1) 0
     refused-told n line.no-hop = refl
     refused-told n line.spent = refl
-    refused-told n (line.handing j x) = refl
+    refused-told n (line.handing j (got x e)) = refl
+    refused-told n (line.handing j (reported k)) = refl
 
 -- a put of what is no frame refuses, and is no call of the line
 bad-follows : (f : ℕ) (l : line.Loop papers) → ltb f frames ≡ false →
@@ -389,18 +379,9 @@ follows (hop i) l = hop-follows i l (hopIn i (toLoop l)) (line.hopAt l i)
     (rw (same-flat papers .same-hop l i) at (hop-alike i (flat.flat l)))
 follows take l = take-follows l (takeIn (toLoop l)) (line.takeOut l)
     (rw (same-flat papers .same-take l) at (take-alike (flat.flat l)))
-follows (load i bs e) l =
-    local-follows (load i bs e) i (toLoad bs e) refl (λ k. refl) (λ j k. refl) (λ j k. refl) l _
-    (line.callAt l i (toLoad bs e))
-    (rw (same-flat papers .same-call l i (toLoad bs e)) at (load-alike i bs e (flat.flat l)))
-follows (status i s) l =
-    local-follows (status i s) i (toStatus s) refl (λ k. refl) (λ j k. refl) (λ j k. refl) l _
-    (line.callAt l i (toStatus s))
-    (rw (same-flat papers .same-call l i (toStatus s)) at (local-alike (toStatus s) i (flat.flat l)))
-follows (wish i w) l =
-    local-follows (wish i w) i (toWish w) refl (λ k. refl) (λ j k. refl) (λ j k. refl) l _
-    (line.callAt l i (toWish w))
-    (rw (same-flat papers .same-call l i (toWish w)) at (local-alike (toWish w) i (flat.flat l)))
+follows (local i c) l =
+    local-follows i c l _ (line.callAt l i c)
+    (rw (same-flat papers .same-call l i c) at (local-alike c i (flat.flat l)))
 follows (drain b) l = drain-follows b l
 follows owes l =
     record {

@@ -23,8 +23,8 @@ use Rattle.calls.specs.Outcome.{Outcome, done, After, after, callOf, callWith}
 use Rattle.calls.specs.Calls.{refusal, noTake, putIn, takeIn, localIn}
 use Rattle.calls.specs.declared.TakeAnswer.{TakeAnswer}
 use Rattle.calls.proofs.Outcomes.{load-chosen, take-done}
-use Rattle.demands.specs.Calls.{numbers, put, take, plain, taken, told, acts}
-use Rattle.demands.specs.Histories.{Local, toLoad, toStatus, toWish, calledBy, localCall}
+use Rattle.demands.specs.Calls.{numbers, Local, load, status, wish, key, calledBy, put, take, local, plain}
+use Rattle.demands.specs.Calls.{taken, told, acts}
 use Rattle.demands.specs.Demands.{Judged}
 use Rattle.demands.proofs.Tests.{size-is, load-choice}
 
@@ -88,13 +88,14 @@ module _ (a : List ℕ) (j : Judged a) where
       (device-area i (calledBy c (device (loopOf a) i) .device) h)
 
   pub local-call-leaves : (c : Local) (i : ℕ) → i < countIn a → calledBy c (device (loopOf a) i) .refusal ≡ 0 →
-      acts (localCall i c) a ≡ after (plain 0)
+      acts (local i c) a ≡ after (plain 0)
       (splice (recordAt i) (recordOf (calledBy c (device (loopOf a) i) .device)) a)
   local-call-leaves c i h z = go c z (local-leaves c i h z)
     where
       go : (c : Local) {x : List ℕ} → calledBy c (device (loopOf a) i) .refusal ≡ 0 →
-          callOf refusal (localIn (calledBy c) i) a ≡ after 0 x → acts (localCall i c) a ≡ after (plain 0) x
-      go (toLoad bs e) z q =
+          callOf refusal (localIn (calledBy c) i) a ≡ after 0 x → acts (local i c) a ≡ after (plain 0) x
+      go (load bs e) z q =
           ap (told plain) (load-chosen a i (numbers bs) e (load-choice (device (loopOf a) i) (numbers bs) e z) ∙ q)
-      go (toStatus s) z q = ap (told plain) q
-      go (toWish w) z q = ap (told plain) q
+      go (status s) z q = ap (told plain) q
+      go (wish w) z q = ap (told plain) q
+      go key z q = ap (told plain) q

@@ -27,7 +27,7 @@ use Rattle.area.proofs.Parts.{length-parts}
 use Rattle.calls.specs.Outcome.{Outcome, refuse, done}
 use Rattle.calls.specs.Calls.{atPlace, ofOldest, intoRoom, refusal, hopAnswer, sentBy, putIn, takenFrom, takeIn}
 use Rattle.calls.specs.Calls.{passes, passesOn, hopFrom, hopIn, calledIn, calledAt, localIn, loadIn}
-use Rattle.calls.specs.Drain.{onPlace, handedTo, turned, highest, drainFrom}
+use Rattle.calls.specs.Drain.{onPlace, handedTo, reportedBy, turned, highest, drainFrom}
 use Rattle.calls.specs.declared.HopAnswer.{HopAnswer}
 use Rattle.calls.specs.declared.TakeAnswer.{TakeAnswer}
 use Rattle.calls.specs.declared.DrainAnswer.{DrainAnswer}
@@ -81,6 +81,8 @@ hopRefusal r = r .refusal
 pub hop-done : (f : ℕ) (h : Handed) → hopAnswer f h .refusal ≡ 0
 hop-done f handed.Nothing = refl
 hop-done f (handed.Byte b e) = refl
+hop-done f handed.Clear = refl
+hop-done f handed.Trigger = refl
 
 pub hop-told : (i : ℕ) (l : Loop) → Told HopAnswer hopRefusal (hopIn i l)
     (cond (leb (size l) i) 3 (cond (eqb (length (link l i)) 0) 5 (cond (leb depth (length (link l (suc i)))) 6 0)))
@@ -185,11 +187,12 @@ Never o = Told DrainAnswer drainRefusal o 0
 turned-told : (i h : ℕ) (next : Loop → Outcome DrainAnswer) (l : Loop) (o : Outcome HopAnswer) →
     ((m : Loop) → Never (next m)) → Never (turned i h next l o)
 turned-told i h next l (refuse k) n = yes _ _ refl
-turned-told i h next l (done r m) n = go (eqb (r .handed) 1)
+turned-told i h next l (done r m) n = go (eqb (r .handed) 1) (eqb (r .event) 0)
   where
-    go : (t : Bool) → Never (cond t (handedTo i (suc h) r m) (next m))
-    go true = yes _ _ refl
-    go false = n m
+    go : (t u : Bool) → Never (cond t (handedTo i (suc h) r m) (cond u (next m) (reportedBy i (suc h) r m)))
+    go true u = yes _ _ refl
+    go false true = n m
+    go false false = yes _ _ refl
 
 either-told : (x : Outcome DrainAnswer) (y : ℕ → Outcome DrainAnswer) (p : Place) → Never x →
     ((i : ℕ) → Never (y i)) → Never (onPlace x y p)

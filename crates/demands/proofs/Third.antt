@@ -34,8 +34,8 @@ use Rattle.demands.specs.Calls.{Byte, numbers, Action, setUp, opens, Ans
 use Rattle.demands.specs.Calls as page
 use Rattle.demands.specs.Conditions.{devicesAt, due}
 use Rattle.demands.specs.Histories.{Step, call, away, history, refusedBy, ofCall, total, areaLeft, framesPut}
-use Rattle.demands.specs.Histories.{framesTaken, bytesHanded, hopsMade, stepsRefused, toLoad, toStatus, toWish}
-use Rattle.demands.specs.Histories.{papers, allCalls, lineOf, turnsOf, asSteps, inTurn}
+use Rattle.demands.specs.Histories.{framesTaken, allHanded, hopsMade, stepsRefused, papers}
+use Rattle.demands.specs.Histories.{allCalls, lineOf, turnsOf, asSteps, inTurn}
 use Rattle.demands.specs.Demands.{Judged, hopsOwed, AllEmpty, InAnyOrder, FreshInAnyOrder, Demand3}
 use Rattle.demands.specs.Demands.{StartsJudged, Turns, TurnsAreSeen, Agreement}
 use Rattle.demands.proofs.Away.{open-leaves, opened-judged, away-done}
@@ -77,9 +77,7 @@ fair-all [] u = tt
 fair-all (line.put f ∷ cs) u = (lt-ltb f frames (u .0), fair-all cs (u .1))
 fair-all (line.hop i ∷ cs) u = (refl, fair-all cs (u .1))
 fair-all (line.take ∷ cs) u = (refl, fair-all cs (u .1))
-fair-all (line.local i (toLoad bs e) ∷ cs) u = (refl, fair-all cs (u .1))
-fair-all (line.local i (toStatus s) ∷ cs) u = (refl, fair-all cs (u .1))
-fair-all (line.local i (toWish w) ∷ cs) u = (refl, fair-all cs (u .1))
+fair-all (line.local i c ∷ cs) u = (refl, fair-all cs (u .1))
 fair-all (line.drain b ∷ cs) u = (refl, fair-all cs (u .1))
 
 -- what is refused of a call that the line has
@@ -195,7 +193,7 @@ module _ (l : line.Loop papers) (good : Sound-loop (toLoop l)) (ss : List Step)
             ∙ sym (area-is l good ss
             ∙ ap (λ (p : line.Loop papers × List (line.Event papers)). areaOf (toLoop (p .0))) ends);
         same-taken = alike (λ c. framesTaken x c) (λ e. told.taken e) (taken-are l good) ((same-as .0) .same-taken);
-        same-handed = λ i. alike (λ c. bytesHanded x c i) (λ e. told.handed e i) (λ c. handed-are l good c i)
+        same-handed = λ i. alike (λ c. allHanded x c i) (λ e. told.handed e i) (λ c. handed-are l good c i)
             ((same-as .0) .same-handed i);
         hops-made = omega (arith, made);
       }
@@ -302,7 +300,7 @@ module _ (l : line.Loop papers) (good : Sound-loop (toLoop l)) (ss rs : List Ste
   y = areaOf (toLoop l)
 
   agreed : (areaLeft y ss ≡ areaLeft y rs) × (framesTaken y ss ≡ framesTaken y rs)
-      × ((i : ℕ) → bytesHanded y ss i ≡ bytesHanded y rs i) × (hopsMade y ss ≡ hopsMade y rs)
+      × ((i : ℕ) → allHanded y ss i ≡ allHanded y rs i) × (hopsMade y ss ≡ hopsMade y rs)
   agreed =
       let u = ends l good ss p in
       let v = ends l good rs q in

@@ -11,15 +11,14 @@ use Rattle.area.specs.Lookup.{blankOf}
 use Rattle.area.proofs.Areas.{sized, judge-zero, is-shaped}
 use Rattle.area.proofs.Blank.{blank-sound}
 use Rattle.area.proofs.Laws.{area-sound, loop-back}
-use Rattle.record_local.specs.Local.{setsStatus, wishes}
 use Rattle.calls.specs.Outcome.{After, after, reads}
-use Rattle.calls.specs.Calls.{refusal, putIn, noTake, takeIn, noHop, hopIn, localIn, loadIn}
+use Rattle.calls.specs.Calls.{refusal, putIn, noTake, takeIn, noHop, hopIn}
 use Rattle.calls.specs.Drain.{noDrain, drainIn}
 use Rattle.calls.specs.Owed.{noOwed, owedIn}
 use Rattle.calls.specs.declared.OwedAnswer.{OwedAnswer}
 use Rattle.limits.specs.Limits.{FewIn, Agree}
 use Rattle.limits.proofs.Limits.{limits-agree, more-refused}
-use Rattle.demands.specs.Calls.{numbers, Action, put, hop, take, load, status, wish, drain, owes, save, Call}
+use Rattle.demands.specs.Calls.{numbers, localBy, Action, put, hop, take, local, drain, owes, save, Call}
 use Rattle.demands.specs.Calls.{onArea, setUp, opens, decode, encode, plain, hopped, taken, drained, owing}
 use Rattle.demands.specs.Calls.{saving, told, actsWith, pilWith, acts, pil}
 use Rattle.demands.specs.Demands.{formerMost, FewFor, ThirtyOne}
@@ -40,10 +39,7 @@ acts-alike : (c : Action) (a : List ℕ) → FewIn formerMost a → actsWith for
 acts-alike (put f) a few = ap (told plain) (agree .called _ refusal (putIn f) a few)
 acts-alike (hop i) a few = ap (told hopped) (agree .called _ noHop (hopIn i) a few)
 acts-alike take a few = ap (told taken) (agree .called _ noTake takeIn a few)
-acts-alike (load i bs e) a few = ap (told plain) (agree .called _ refusal (loadIn i (numbers bs) e) a few)
-acts-alike (status i s) a few =
-    ap (told plain) (agree .called _ refusal (localIn (λ d. setsStatus d (s .value)) i) a few)
-acts-alike (wish i w) a few = ap (told plain) (agree .called _ refusal (localIn (λ d. wishes d w) i) a few)
+acts-alike (local i c) a few = ap (told plain) (agree .called _ refusal (localBy c i) a few)
 acts-alike (drain b) a few = ap (told drained) (agree .called _ noDrain (drainIn b) a few)
 acts-alike owes a few =
     ap (λ (o : After OwedAnswer). after (owing (o .answer)) a) (agree .called _ noOwed (reads owedIn) a few)

@@ -2,9 +2,11 @@
 -- that the contracts of the exported functions cite.
 use Prim.Native.Nat.{ℕ, _<_}
 use mathlib.Core.List.{List, map}
-use Rattle.record_local.specs.Local.{setsStatus, wishes}
+use Rattle.device.specs.declared.Device.{Device}
+use Rattle.record_local.specs.Local.{Called, loads, setsStatus, wishes, presses}
 use Rattle.area.specs.Sizes.{mostDevices}
-use Rattle.calls.specs.Outcome.{After, after, callWith, reads}
+use Rattle.area.specs.Loop.{Loop}
+use Rattle.calls.specs.Outcome.{Outcome, After, after, callWith, reads}
 use Rattle.calls.specs.Calls.{refusal, putIn, noTake, takeIn, noHop, hopIn, localIn, loadIn}
 use Rattle.calls.specs.Drain.{noDrain, drainIn}
 use Rattle.calls.specs.Owed.{noOwed, owedIn}
@@ -26,15 +28,34 @@ pub record Byte : Type 0 where
 abbrev pub numbers : List Byte → List ℕ
 numbers bs = map (λ (b : Byte). b .value) bs
 
+-- a local call on a device
+pub data Local : Type 0 where
+  -- with the choice how the last byte goes out; pil_load_end is the load with 1, as its contract says
+  load : List Byte → ℕ → Local
+  status : Byte → Local
+  wish : ℕ → Local
+  key : Local
+
+-- what it leaves of the device
+abbrev pub calledBy : Local → Device → Called
+calledBy (load bs e) d = loads d (numbers bs) e
+calledBy (status s) d = setsStatus d (s .value)
+calledBy (wish w) d = wishes d w
+calledBy key d = presses d
+
+-- and what it does with device i of a loop: a load's choice is looked at before the device is
+abbrev pub localBy : Local → ℕ → Loop → Outcome ℕ
+localBy (load bs e) i l = loadIn i (numbers bs) e l
+localBy (status s) i l = localIn (calledBy (status s)) i l
+localBy (wish w) i l = localIn (calledBy (wish w)) i l
+localBy key i l = localIn (calledBy key) i l
+
 -- a call on the area of a loop that is set up or opened
 pub data Action : Type 0 where
   put : ℕ → Action
   hop : ℕ → Action
   take : Action
-  -- with the choice how the last byte goes out; pil_load_end is the load with 1, as its contract says
-  load : ℕ → List Byte → ℕ → Action
-  status : ℕ → Byte → Action
-  wish : ℕ → ℕ → Action
+  local : ℕ → Local → Action
   drain : ℕ → Action
   owes : Action
   -- with the bytes of its output before
@@ -70,9 +91,7 @@ abbrev pub actsWith : ℕ → Action → List ℕ → After Answer
 actsWith limit (put f) a = told plain (callWith limit refusal (putIn f) a)
 actsWith limit (hop i) a = told hopped (callWith limit noHop (hopIn i) a)
 actsWith limit take a = told taken (callWith limit noTake takeIn a)
-actsWith limit (load i bs e) a = told plain (callWith limit refusal (loadIn i (numbers bs) e) a)
-actsWith limit (status i s) a = told plain (callWith limit refusal (localIn (λ d. setsStatus d (s .value)) i) a)
-actsWith limit (wish i w) a = told plain (callWith limit refusal (localIn (λ d. wishes d w) i) a)
+actsWith limit (local i c) a = told plain (callWith limit refusal (localBy c i) a)
 actsWith limit (drain b) a = told drained (callWith limit noDrain (drainIn b) a)
 actsWith limit owes a = after (owing (callWith limit noOwed (reads owedIn) a .answer)) a
 actsWith limit (save out) a =
@@ -109,9 +128,7 @@ abbrev pub bareAction : Action → ℕ → Answer
 bareAction (put f) k = plain k
 bareAction (hop i) k = hopped (noHop k)
 bareAction take k = taken (noTake k)
-bareAction (load i bs e) k = plain k
-bareAction (status i s) k = plain k
-bareAction (wish i w) k = plain k
+bareAction (local i c) k = plain k
 bareAction (drain b) k = drained (noDrain k)
 bareAction owes k = owing (noOwed k)
 bareAction (save out) k = saving k (numbers out)

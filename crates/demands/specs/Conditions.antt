@@ -1,5 +1,5 @@
 -- The conditions of 01's refusal table, each a test of a call and an area, written from the table row by row, with what
--- 02 adds: g to the fourth, a to the first two and a tenth, h to the second and the tenth.
+-- 02 adds: g to the fourth, a to the first two and a tenth, d (by what is sound) and h to the second, h to the tenth.
 use Prim.Native.Nat.{ℕ, zero, suc, _*_}
 use mathlib.Core.List.{List, [], _∷_}
 use mathlib.Core.Bool.{Bool, false, not, cond, _&&_, _||_}
@@ -9,13 +9,14 @@ use Rattle.frame.specs.Messages.{frames}
 use Rattle.frame.specs.Decoding.{hasC1, offsetsOf}
 use Rattle.device.specs.Device.{sendData, status as sendStatus, serviceRequest, sendingData, mostData, has}
 use Rattle.device.specs.Change.{choice}
+use Rattle.device.specs.declared.Device.{Device}
 use Rattle.record.specs.Sound.{allowed}
 use Rattle.area.specs.Sizes.{depth, mostDevices, itemSize, areaSize}
 use Rattle.area.specs.Parts.{parts, all}
 use Rattle.area.specs.Loop.{countIn, loopOf, sound, device, link}
 use Rattle.saved.specs.Saved.{body, savedSize, savedCount, edition, savedDevices, formed, contents}
-use Rattle.demands.specs.Calls.{numbers, Action, put, hop, take, load, status, wish, drain, owes, save, Call}
-use Rattle.demands.specs.Calls.{onArea, setUp, opens, decode, encode}
+use Rattle.demands.specs.Calls.{Byte, numbers, Local, load, status, wish, key, Action, put, hop, take}
+use Rattle.demands.specs.Calls.{local, drain, owes, save, Call, onArea, setUp, opens, decode, encode}
 
 -- the number of devices, n at most, whose area has this length; 0 if there is none
 abbrev pub devicesUpTo : ℕ → ℕ → ℕ
@@ -30,9 +31,7 @@ abbrev pub badOutput : Action → List ℕ → Bool
 badOutput (put f) a = false
 badOutput (hop i) a = false
 badOutput take a = false
-badOutput (load i bs e) a = false
-badOutput (status i s) a = false
-badOutput (wish i w) a = false
+badOutput (local i c) a = false
 badOutput (drain b) a = false
 badOutput owes a = false
 badOutput (save out) a = not (eqb (length (numbers out)) (savedSize (countIn a)))
@@ -48,14 +47,19 @@ Shape (opens s) a = not (eqb (length a) (areaSize (savedCount (numbers s))))
 Shape (decode f) a = false
 Shape (encode k o c) a = false
 
+-- a load's condition, and no other local call's
+abbrev pub ofLoad : (List Byte → ℕ → Bool) → Local → Bool
+ofLoad test (load bs e) = test bs e
+ofLoad test (status s) = false
+ofLoad test (wish w) = false
+ofLoad test key = false
+
 -- the choice of a load is neither 0 nor 1
 abbrev pub noChoice : Action → Bool
 noChoice (put f) = false
 noChoice (hop i) = false
 noChoice take = false
-noChoice (load i bs e) = ltb 1 e
-noChoice (status i s) = false
-noChoice (wish i w) = false
+noChoice (local i c) = ofLoad (λ bs e. ltb 1 e) c
 noChoice (drain b) = false
 noChoice owes = false
 noChoice (save out) = false
@@ -78,9 +82,7 @@ abbrev pub NoDevice : Action → List ℕ → Bool
 NoDevice (put f) a = false
 NoDevice (hop i) a = leb (countIn a) i
 NoDevice take a = false
-NoDevice (load i bs e) a = leb (countIn a) i
-NoDevice (status i s) a = leb (countIn a) i
-NoDevice (wish i w) a = leb (countIn a) i
+NoDevice (local i c) a = leb (countIn a) i
 NoDevice (drain b) a = false
 NoDevice owes a = false
 NoDevice (save out) a = false
@@ -94,9 +96,7 @@ abbrev pub BadFrame : Call → Bool
 BadFrame (onArea (put f)) = leb frames f
 BadFrame (onArea (hop i)) = false
 BadFrame (onArea take) = false
-BadFrame (onArea (load i bs e)) = false
-BadFrame (onArea (status i s)) = false
-BadFrame (onArea (wish i w)) = false
+BadFrame (onArea (local i c)) = false
 BadFrame (onArea (drain b)) = false
 BadFrame (onArea owes) = false
 BadFrame (onArea (save out)) = false
@@ -117,9 +117,7 @@ abbrev pub Empty : Action → List ℕ → Bool
 Empty (put f) a = false
 Empty (hop i) a = holdsNone i a
 Empty take a = holdsNone (countIn a) a
-Empty (load i bs e) a = false
-Empty (status i s) a = false
-Empty (wish i w) a = false
+Empty (local i c) a = false
 Empty (drain b) a = false
 Empty owes a = false
 Empty (save out) a = false
@@ -129,25 +127,24 @@ abbrev pub Full : Action → List ℕ → Bool
 Full (put f) a = holdsFour 0 a
 Full (hop i) a = holdsFour (suc i) a
 Full take a = false
-Full (load i bs e) a = false
-Full (status i s) a = false
-Full (wish i w) a = false
+Full (local i c) a = false
 Full (drain b) a = false
 Full owes a = false
 Full (save out) a = false
 
--- device i lacks an ability
-abbrev pub lacks : ℕ → ℕ → List ℕ → Bool
-lacks i able a = not (has (device (loopOf a) i) able)
+-- a device lacks the ability that a local call asks for: load without 2, status without 4, wish without 128
+abbrev pub lacks : Local → Device → Bool
+lacks (load bs e) d = not (has d sendData)
+lacks (status s) d = not (has d sendStatus)
+lacks (wish w) d = not (has d serviceRequest)
+lacks key d = false
 
--- 7, NoAbility: load without 2, status without 4, wish without 128
+-- 7, NoAbility: the device lacks the ability that the local call asks for
 abbrev pub NoAbility : Action → List ℕ → Bool
 NoAbility (put f) a = false
 NoAbility (hop i) a = false
 NoAbility take a = false
-NoAbility (load i bs e) a = lacks i sendData a
-NoAbility (status i s) a = lacks i sendStatus a
-NoAbility (wish i w) a = lacks i serviceRequest a
+NoAbility (local i c) a = lacks c (device (loopOf a) i)
 NoAbility (drain b) a = false
 NoAbility owes a = false
 NoAbility (save out) a = false
@@ -157,9 +154,7 @@ abbrev pub TooLong : Action → Bool
 TooLong (put f) = false
 TooLong (hop i) = false
 TooLong take = false
-TooLong (load i bs e) = ltb mostData (length (numbers bs))
-TooLong (status i s) = false
-TooLong (wish i w) = false
+TooLong (local i c) = ofLoad (λ bs e. ltb mostData (length (numbers bs))) c
 TooLong (drain b) = false
 TooLong owes = false
 TooLong (save out) = false
@@ -169,9 +164,7 @@ abbrev pub Busy : Action → List ℕ → Bool
 Busy (put f) a = false
 Busy (hop i) a = false
 Busy take a = false
-Busy (load i bs e) a = eqb (device (loopOf a) i .talker) sendingData
-Busy (status i s) a = false
-Busy (wish i w) a = false
+Busy (local i c) a = ofLoad (λ bs e. eqb (device (loopOf a) i .talker) sendingData) c
 Busy (drain b) a = false
 Busy owes a = false
 Busy (save out) a = false

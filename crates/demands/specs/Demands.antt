@@ -1,9 +1,10 @@
 -- The three demands on the model, and what 02 asks of the hops owed (k), of saved loops (a), of the limit on devices
--- (j) and of END by choice (h), over the very definitions that the contracts of the exported functions cite.
+-- (j), of END by choice (h) and of clear, trigger, remote and local (d), over the very definitions that the contracts
+-- of the exported functions cite.
 -- It leans on Calls, Conditions, Drains, Histories (the crate teeth says what it shuts out); frame's Messages,
--- Decoding, Coding, Laws; coding's Coding; device's Sent, Sentences, and Take with the rules that it names;
--- record_local's Local; record's Record, Parts, Sound, Fits; area's Sizes, Parts, Link, Loop, Lookup; calls'
--- Outcome, Calls, Drain, SetUp, Owed; saved's Saved, Older, Calls, Laws; limits' Limits; order's Line, Flat,
+-- Decoding, Coding, Laws; coding's Coding; device's Sent, Sentences, RemoteTable, and Take with the rules that it
+-- names; record_local's Local; record's Record, Parts, Sound, Fits, Laws; area's Sizes, Parts, Link, Loop, Lookup;
+-- calls' Outcome, Calls, Drain, SetUp, Owed; saved's Saved, Older, Calls, Laws; limits' Limits; order's Line, Flat,
 -- History, RightRound, Through, Owed, which have names of their own.
 use Prim.Native.Nat.{ℕ, suc, _+_, _*_, _≤_, _<_}
 use mathlib.Core.Path.{_≡_}
@@ -14,8 +15,11 @@ use Rattle.frame.specs.Decoding.{message, decoded as decoding, frameOf}
 use Rattle.frame.specs.Laws.{TableInOrder, DecodeEncode, EncodeDecode, KindZero}
 use Rattle.device.specs.Take.{takes}
 use Rattle.device.specs.Sent.{Sent}
-use Rattle.device.specs.Sentences.{EndWhereAsked, EndOnlyAsked}
+use Rattle.device.specs.Sentences.{EndWhereAsked, EndOnlyAsked, EventsReported, EventsChangeNothing}
+use Rattle.device.specs.Sentences.{OthersLeaveRemote, IfcLeavesRemote, OnlyEnabled, GtlOnlyListener, KeyOnlyUnlocked}
+use Rattle.device.specs.RemoteTable.{RemoteTable}
 use Rattle.record.specs.Record.{recordOf}
+use Rattle.record.specs.Laws.{AnyRemote}
 use Rattle.record.specs.Parts.{splice}
 use Rattle.record.specs.Fits.{Bytes}
 use Rattle.area.specs.Sizes.{depth, mostDevices, recordAt, linkAt}
@@ -31,13 +35,13 @@ use Rattle.saved.specs.Laws.{SavedLong, OpenAfterSave, OpenOver, OneForm, OldFo
 use Rattle.limits.specs.Limits.{FewIn, FewItems, FewSaved, Agree, RefusesMore}
 use Rattle.order.specs.History.{callsIn, hopsIn, sumOver}
 use Rattle.order.specs.Owed.{owed}
-use Rattle.demands.specs.Calls.{Byte, numbers, put, hop, take, drain, owes, save, Call, onArea, setUp, opens}
-use Rattle.demands.specs.Calls.{decode, encode, Answer, plain, hopped, taken, owing, saving, decoded, encoded}
-use Rattle.demands.specs.Calls.{pilWith, pil, refusalIn, bare}
+use Rattle.demands.specs.Calls.{Byte, numbers, Local, calledBy, put, hop, take, local, drain, owes, save, Call}
+use Rattle.demands.specs.Calls.{onArea, setUp, opens, decode, encode, Answer, plain, hopped, taken, owing}
+use Rattle.demands.specs.Calls.{saving, decoded, encoded, pilWith, pil, refusalIn, bare}
 use Rattle.demands.specs.Conditions.{devicesAt, due}
 use Rattle.demands.specs.Drains.{byHops}
-use Rattle.demands.specs.Histories.{Step, away, stepped, areaLeft, framesPut, framesTaken, bytesHanded}
-use Rattle.demands.specs.Histories.{hopsBy, hopsMade, stepsRefused, Local, calledBy, localCall, turnsOf}
+use Rattle.demands.specs.Histories.{Step, away, stepped, areaLeft, framesPut, framesTaken, allHanded}
+use Rattle.demands.specs.Histories.{hopsBy, hopsMade, stepsRefused, turnsOf}
 use Rattle.demands.specs.Histories.{Drainless, turnsSeen, callsSeen, inTurn, allRound}
 
 -- ---- Demand 1: every call is refused exactly by the table
@@ -93,7 +97,7 @@ hopsOwed a = owed (loopOf a .links)
 pub record Obeys (model : Call → List ℕ → After Answer) : Type 0 where
   -- a hop leaves that area,
   pub leaves : (i f : ℕ) (fs a : List ℕ) → CanHop i f fs a → model (onArea (hop i)) a .area ≡ hopLeaves i f a
-  -- and answers the frame sent and the byte handed that the rules give;
+  -- and answers the frame sent, and the byte handed or the event reported, that the rules give;
   pub answers : (i f : ℕ) (fs a : List ℕ) → CanHop i f fs a →
       model (onArea (hop i)) a .answer ≡ hopped (hopAnswer (ruled i f a .frame) (ruled i f a .handed))
   -- a drain answers and leaves what its hops come to, the highest-numbered device's first;
@@ -109,7 +113,7 @@ pub record Obeys (model : Call → List ℕ → After Answer) : Type 0 where
   -- a local call that the device accepts makes its record that of the device after it, and no other byte changes;
   pub local-calls : (c : Local) (i : ℕ) (a : List ℕ) → Judged a → i < countIn a →
       calledBy c (device (loopOf a) i) .refusal ≡ 0 →
-      model (onArea (localCall i c)) a ≡ after (plain 0)
+      model (onArea (local i c)) a ≡ after (plain 0)
       (splice (recordAt i) (recordOf (calledBy c (device (loopOf a) i) .device)) a)
   -- asked for the hops owed it answers them, and no byte changes;
   pub tells-owed : (a : List ℕ) → Judged a →
@@ -155,9 +159,10 @@ pub record InAnyOrder (a : List ℕ) (ss : List Step) : Type 0 where
   pub same-turns : (i : ℕ) → turnsOf a (inTurn a ss) i ≡ turnsOf a ss i
   -- the same area is left, byte for byte,
   pub same-area : areaLeft a (inTurn a ss) ≡ areaLeft a ss
-  -- the same frames are taken, and each device is handed the same bytes with the same end bits.
+  -- the same frames are taken, and each device is handed the same bytes with the same end bits, and the same clears
+  -- and triggers are reported at it, in the same order.
   pub same-taken : framesTaken a (inTurn a ss) ≡ framesTaken a ss
-  pub same-handed : (i : ℕ) → bytesHanded a (inTurn a ss) i ≡ bytesHanded a ss i
+  pub same-handed : (i : ℕ) → allHanded a (inTurn a ss) i ≡ allHanded a ss i
   -- Hops made are those owed at first, and frames put times devices.
   pub hops-made : hopsMade a ss ≡ hopsOwed a + length (framesPut a ss) * countIn a
 
@@ -204,7 +209,7 @@ Agreement = (a : List ℕ) (ss rs : List Step) → Judged a →
     AllEmpty (areaLeft a ss) → AllEmpty (areaLeft a rs) → framesPut a ss ≡ framesPut a rs →
     ((i : ℕ) → turnsOf a ss i ≡ turnsOf a rs i) →
     (areaLeft a ss ≡ areaLeft a rs) × (framesTaken a ss ≡ framesTaken a rs) ×
-    ((i : ℕ) → bytesHanded a ss i ≡ bytesHanded a rs i) × (hopsMade a ss ≡ hopsMade a rs)
+    ((i : ℕ) → allHanded a ss i ≡ allHanded a rs i) × (hopsMade a ss ≡ hopsMade a rs)
 
 -- ---- Hops owed (02, k). What calls leave of them, for any bytes as the area:
 
@@ -229,7 +234,7 @@ OwedAfterTake = (a : List ℕ) → Bytes a → hopsOwed (pil (onArea take) a .ar
 
 abbrev pub OwedAfterLocalCall : Type 0
 OwedAfterLocalCall = (c : Local) (i : ℕ) (a : List ℕ) → Bytes a →
-    hopsOwed (pil (onArea (localCall i c)) a .area) ≡ hopsOwed a
+    hopsOwed (pil (onArea (local i c)) a .area) ≡ hopsOwed a
 
 abbrev pub OwedAfterRefusal : Type 0
 OwedAfterRefusal = (c : Call) (a : List ℕ) → (refusalIn (pil c a .answer) ≡ 0 → ⊥) →
@@ -320,3 +325,23 @@ pub record EndByChoice : Type 0 where
   pub only-asked : EndOnlyAsked
   -- Saves written before loads took a choice still open, with END chosen by each device with data.
   pub old-opens : OldOpens
+
+-- ---- Clear, trigger, remote and local (02, d). What a hop and a drain answer of events, and what the key does, demand
+-- 2 says; that the order of hops does not matter to them, demand 3.
+
+pub record RemoteLocal : Type 0 where
+  -- A clear or trigger is reported where it is due and only there, and changes no record.
+  pub events-reported : EventsReported
+  pub events-change-nothing : EventsChangeNothing
+  -- At a device that listens, could, or cannot, each of the four states goes under every message and the key, with the
+  -- flag clear and set, where the table beside 001's section 2.17 says.
+  pub table : RemoteTable
+  -- At every device: no message that 2.17 does not name changes state or flag, and IFC does not;
+  pub others-leave-remote : OthersLeaveRemote
+  pub ifc-leaves-remote : IfcLeavesRemote
+  -- LLO and own LAD act only while enabled, GTL only at an addressed listener, the key only in unlocked remote.
+  pub only-enabled : OnlyEnabled
+  pub gtl-only-listener : GtlOnlyListener
+  pub key-only-unlocked : KeyOnlyUnlocked
+  -- Every state is sound with either flag; with zeros in both bytes a record is judged as before they had a meaning.
+  pub any-remote : AnyRemote

@@ -9,7 +9,7 @@ use Rattle.area.specs.Loop.{countIn}
 use Rattle.calls.specs.Outcome.{After, after}
 use Rattle.demands.specs.Calls.{hop, Call, onArea, Answer, drained}
 use Rattle.demands.specs.Conditions.{due}
-use Rattle.demands.specs.Histories.{Got, handedBy}
+use Rattle.demands.specs.Histories.{Got, got, reported, handedBy}
 
 -- device i can hop: no condition of the refusal table holds for its hop
 abbrev pub can : List ℕ → ℕ → Bool
@@ -25,12 +25,14 @@ abbrev pub stopsBefore : (reason h : ℕ) → List ℕ → After Answer
 stopsBefore why h a =
     after (drained (record { hops = h; refusal = 0; reason = why; device = 0; byte = 0; end = 0 })) a
 
--- just after device i's hop, the h-th, which handed g and left a
+-- just after device i's hop, the h-th, which left a: it handed a byte, or reported a clear or trigger
 abbrev pub stopsAfter : (i h : ℕ) → Got → List ℕ → After Answer
-stopsAfter i h g a =
-    after (drained (record { hops = h; refusal = 0; reason = 2; device = i; byte = g .byte; end = g .end })) a
+stopsAfter i h (got b e) a =
+    after (drained (record { hops = h; refusal = 0; reason = 2; device = i; byte = b; end = e })) a
+stopsAfter i h (reported k) a =
+    after (drained (record { hops = h; refusal = 0; reason = 3; device = i; byte = k; end = 0 })) a
 
--- device i's hop handed these and left a: it stops if that is a byte, and else goes on
+-- device i's hop told these and left a: it stops for the first of them, and goes on if there is none
 abbrev pub onceHopped : (i h : ℕ) → (List ℕ → After Answer) → List Got → List ℕ → After Answer
 onceHopped i h goOn [] a = goOn a
 onceHopped i h goOn (g ∷ gs) a = stopsAfter i h g a

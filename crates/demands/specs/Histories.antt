@@ -2,13 +2,12 @@
 -- answers, the turns of devices, and the history that sends each frame right round.
 use Prim.Native.Nat.{ℕ, _+_}
 use mathlib.Core.Path.{_≡_}
-use mathlib.Core.Bool.{Bool, true, false, cond, _&&_}
+use mathlib.Core.Bool.{Bool, true, false, not, cond, _&&_}
 use mathlib.Core.Option.{Option, none, some}
 use mathlib.Core.List.{List, [], _∷_, _++_, map}
 use lib.Dec.{eqb, ltb, lit<}
 use Rattle.frame.specs.Messages.{frames}
 use Rattle.device.specs.Take.{takes}
-use Rattle.record_local.specs.Local.{loads, setsStatus, wishes}
 use Rattle.device.specs.declared.Device.{Device}
 use Rattle.device.specs.declared.Handed.{Handed}
 use Rattle.device.specs.declared.Handed.the-variants as handed
@@ -16,13 +15,16 @@ use Rattle.record_local.specs.Local.{Called}
 use Rattle.area.specs.Sizes.{depth}
 use Rattle.area.specs.Loop.{countIn, loopOf}
 use Rattle.calls.specs.Outcome.{After, after}
+use Rattle.calls.specs.Calls.{clear, trigger}
+use Rattle.calls.specs.declared.HopAnswer.{HopAnswer}
+use Rattle.calls.specs.declared.DrainAnswer.{DrainAnswer}
 use Rattle.saved.specs.Calls.{saveOf, openOf}
 use Rattle.order.specs.Line as line
 use Rattle.order.specs.Flat.{lineUp}
 use Rattle.order.specs.History.{Turn, hops, does, turns}
 use Rattle.order.specs.RightRound.{first, rightRound, oneByOne}
 use Rattle.order.specs.Through.{Every}
-use Rattle.demands.specs.Calls.{Byte, numbers, Action, put, hop, take, load, status, wish, drain, owes, save}
+use Rattle.demands.specs.Calls.{Byte, numbers, Local, calledBy, Action, put, hop, take, local, drain, owes, save}
 use Rattle.demands.specs.Calls.{Answer, plain, hopped, taken, drained, owing, saving, decoded, encoded, told}
 use Rattle.demands.specs.Calls.{acts, refusalIn}
 
@@ -55,13 +57,10 @@ history a (s ∷ ss) = ((history (stepped s a .area) ss) .0, stepped s a .answer
 
 -- ---- What is read off each answer
 
--- a byte handed over, with its end bit
-pub record Got : Type 0 where
-  pub byte : ℕ
-  pub end : ℕ
-
-abbrev pub got : ℕ → ℕ → Got
-got b e = record { byte = b; end = e }
+-- what a device gets: a byte handed over, with its end bit; a clear (1) or trigger (2) reported
+pub data Got : Type 0 where
+  got : (byte end : ℕ) → Got
+  reported : (event : ℕ) → Got
 
 -- x where the test is passed, else nothing
 abbrev pub if : {A : Type 0} → Bool → A → List A
@@ -72,9 +71,7 @@ abbrev pub putBy : Action → Answer → List ℕ
 putBy (put f) r = if (eqb (refusalIn r) 0) f
 putBy (hop i) r = []
 putBy take r = []
-putBy (load i bs e) r = []
-putBy (status i s) r = []
-putBy (wish i w) r = []
+putBy (local i c) r = []
 putBy (drain b) r = []
 putBy owes r = []
 putBy (save out) r = []
@@ -95,19 +92,25 @@ abbrev pub hopper : Action → ℕ
 hopper (put f) = 0
 hopper (hop i) = i
 hopper take = 0
-hopper (load i bs e) = 0
-hopper (status i s) = 0
-hopper (wish i w) = 0
+hopper (local i c) = 0
 hopper (drain b) = 0
 hopper owes = 0
 hopper (save out) = 0
 
--- the byte handed to device i, by a hop or at the end of a drain
+-- what a hop's answer tells: the byte handed, and the event
+abbrev pub hopTells : HopAnswer → List Got
+hopTells r = if (eqb (r .handed) 1) (got (r .byte) (r .end)) ++ if (not (eqb (r .event) 0)) (reported (r .event))
+
+-- and a drain's of its last hop: for reason 2 the byte, for reason 3 the event, which stands as the byte
+abbrev pub drainTells : DrainAnswer → List Got
+drainTells r = if (eqb (r .reason) 2) (got (r .byte) (r .end)) ++ if (eqb (r .reason) 3) (reported (r .byte))
+
+-- what is handed to device i, by a hop or at the end of a drain
 abbrev pub handedBy : ℕ → Action → Answer → List Got
 handedBy i c (plain k) = []
-handedBy i c (hopped r) = if (eqb i (hopper c) && eqb (r .handed) 1) (got (r .byte) (r .end))
+handedBy i c (hopped r) = cond (eqb i (hopper c)) (hopTells r) []
 handedBy i c (taken r) = []
-handedBy i c (drained r) = if (eqb i (r .device) && eqb (r .reason) 2) (got (r .byte) (r .end))
+handedBy i c (drained r) = cond (eqb i (r .device)) (drainTells r) []
 handedBy i c (owing r) = []
 handedBy i c (saving k out) = []
 handedBy i c (decoded r) = []
@@ -155,8 +158,8 @@ module _ (a : List ℕ) (ss : List Step) where
   abbrev pub framesTaken : List ℕ
   framesTaken = each (ofCall [] takenBy) ss ((history a ss) .1)
 
-  abbrev pub bytesHanded : ℕ → List Got
-  bytesHanded i = each (ofCall [] (handedBy i)) ss ((history a ss) .1)
+  abbrev pub allHanded : ℕ → List Got
+  allHanded i = each (ofCall [] (handedBy i)) ss ((history a ss) .1)
 
   abbrev pub hopsMade : ℕ
   hopsMade = total (ofCall 0 hopsBy) ss ((history a ss) .1)
@@ -167,27 +170,12 @@ module _ (a : List ℕ) (ss : List Step) where
 -- ---- The devices' turns. A drain does not answer which devices hopped, so turns are read off the run of the line of
 -- devices
 
--- a local call, and what it makes of a device
-pub data Local : Type 0 where
-  toLoad : List Byte → ℕ → Local
-  toStatus : Byte → Local
-  toWish : ℕ → Local
-
-abbrev pub calledBy : Local → Device → Called
-calledBy (toLoad bs e) d = loads d (numbers bs) e
-calledBy (toStatus s) d = setsStatus d (s .value)
-calledBy (toWish w) d = wishes d w
-
--- the same, made by device i of an area
-abbrev pub localCall : ℕ → Local → Action
-localCall i (toLoad bs e) = load i bs e
-localCall i (toStatus s) = status i s
-localCall i (toWish w) = wish i w
-
 -- what a device is handed, if anything
 abbrev pub handedOver : Handed → Option Got
 handedOver handed.Nothing = none
 handedOver (handed.Byte b e) = some (got b e)
+handedOver handed.Clear = some (reported clear)
+handedOver handed.Trigger = some (reported trigger)
 
 -- the device after a local call that it accepts
 abbrev pub acceptedBy : Called → Option Device
@@ -214,9 +202,7 @@ abbrev pub calls : Action → List (line.Call papers)
 calls (put f) = if (ltb f frames) (line.put f)
 calls (hop i) = line.hop i ∷ []
 calls take = line.take ∷ []
-calls (load i bs e) = line.local i (toLoad bs e) ∷ []
-calls (status i s) = line.local i (toStatus s) ∷ []
-calls (wish i w) = line.local i (toWish w) ∷ []
+calls (local i c) = line.local i c ∷ []
 calls (drain b) = line.drain b ∷ []
 calls owes = []
 calls (save out) = []
@@ -245,9 +231,7 @@ abbrev pub hopSeen : ℕ → Action → Answer → List (Turn papers)
 hopSeen i (put f) r = []
 hopSeen i (hop j) r = if (eqb i j && eqb (refusalIn r) 0) hops
 hopSeen i take r = []
-hopSeen i (load j bs e) r = []
-hopSeen i (status j s) r = []
-hopSeen i (wish j w) r = []
+hopSeen i (local j c) r = []
 hopSeen i (drain b) r = []
 hopSeen i owes r = []
 hopSeen i (save out) r = []
@@ -257,9 +241,7 @@ abbrev pub callSeen : ℕ → Action → Answer → List Local
 callSeen i (put f) r = []
 callSeen i (hop j) r = []
 callSeen i take r = []
-callSeen i (load j bs e) r = if (eqb i j && eqb (refusalIn r) 0) (toLoad bs e)
-callSeen i (status j s) r = if (eqb i j && eqb (refusalIn r) 0) (toStatus s)
-callSeen i (wish j w) r = if (eqb i j && eqb (refusalIn r) 0) (toWish w)
+callSeen i (local j c) r = if (eqb i j && eqb (refusalIn r) 0) c
 callSeen i (drain b) r = []
 callSeen i owes r = []
 callSeen i (save out) r = []
@@ -272,9 +254,7 @@ abbrev pub isDrain : Action → Bool
 isDrain (put f) = false
 isDrain (hop i) = false
 isDrain take = false
-isDrain (load i bs e) = false
-isDrain (status i s) = false
-isDrain (wish i w) = false
+isDrain (local i c) = false
 isDrain (drain b) = true
 isDrain owes = false
 isDrain (save out) = false
@@ -301,7 +281,7 @@ abbrev pub action : line.Call papers → Action
 action (line.put f) = put f
 action (line.hop i) = hop i
 action line.take = take
-action (line.local i c) = localCall i c
+action (line.local i c) = local i c
 action (line.drain b) = drain b
 
 abbrev pub asSteps : List (line.Call papers) → List Step

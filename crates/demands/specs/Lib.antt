@@ -1,4 +1,4 @@
--- The three demands, the hops owed, saved loops and the limit: Demands is the page to read, and the others are what it
+-- The three demands, and what the requests ask to be proved: Demands is the page to read, and the others are what it
 -- speaks of.
 pub mod Calls
 pub mod Conditions

@@ -1,4 +1,4 @@
--- The sentences of specs/Sentences.antt, in the paper's order: five are told of every rule (Told), the others follow
+-- The sentences of specs/Sentences.antt, in the papers' order: some are told of every rule (Told), the others follow
 -- from the rule of their frames.
 use Prim.Native.Nat.{ℕ, _+_, _-_, _≤_, _<_}
 use mathlib.Core.Path.{_≡_, refl, sym, ap, _∙_}
@@ -17,17 +17,24 @@ use Rattle.frame.specs.declared.Message.{Message}
 use Rattle.frame.proofs.Rows.{within-kind}
 use Rattle.frame.proofs.Laws.{free, has, data-kind, data-again, idy-kind}
 use Rattle.device.specs.Choose.{choose}
-use Rattle.device.specs.Device.{idle, addressed, sendingData, endLast, sending}
+use Rattle.device.specs.Device.{listen, unaddress, idle, addressed, sendingData, REMS, endLast, sending}
+use Rattle.device.specs.Device.{has as able}
 use Rattle.device.specs.Change.{talking}
+use Rattle.device.specs.Remote.{toRemote, llo, gtl, key}
 use Rattle.device.specs.Commands.{lad, tad}
+use Rattle.device.specs.Clear.{toListener}
 use Rattle.device.specs.Reply.{eto, ete, withC1, marked, stops, dataFrame, sendsData, continues}
 use Rattle.device.specs.Ready.{requested, aad}
 use Rattle.device.specs.Data.{agrees, returned, heard, dataOrEnd}
 use Rattle.device.specs.Take.{takes}
 use Rattle.device.specs.Sentences.{ShowsC1, Sending, CommandsGoOn, NoLadIs31, NoTadIs31, ConfiguredPassesAad}
 use Rattle.device.specs.Sentences.{OwnNotHanded, OwnNotPassed, OwnCompared, IdyGoesOn, ServiceShown, C1Kept}
-use Rattle.device.specs.Sentences.{Of, EndWhereAsked, EndOnlyAsked, LeavingZeroes}
+use Rattle.device.specs.Sentences.{Of, EndWhereAsked, EndOnlyAsked, LeavingZeroes, EventsReported}
+use Rattle.device.specs.Sentences.{EventsChangeNothing, SameRemote, OthersLeaveRemote, IfcLeavesRemote}
+use Rattle.device.specs.Sentences.{OnlyEnabled, GtlOnlyListener, KeyOnlyUnlocked}
 use Rattle.device.specs.declared.Device.{Device}
+use Rattle.device.specs.declared.Handed.{Handed}
+use Rattle.device.specs.declared.Handed.the-variants.{Clear, Trigger}
 use Rattle.device.specs.Sent.{Sent}
 use Rattle.device.proofs.Classes.{data-frame, idy-frame}
 use Rattle.device.proofs.Chosen.{chosen}
@@ -61,7 +68,7 @@ unfolding takes choose aad
 configured-passes-aad d f c e = rw (e, ne-eqb (d .configured) 0 c)
 
 pub own-not-handed : OwnNotHanded
-own-not-handed d f s = told d f .unhanded s
+own-not-handed d f b e s = told d f .unhanded s b e
 
 own-returned : (d : Device) (f : ℕ) → Sending d → IsData f → takes d f ≡ returned d (decoded f)
 unfolding dataOrEnd choose
@@ -209,3 +216,62 @@ c1-kept =
 
 pub leaving-zeroes : LeavingZeroes
 leaving-zeroes d f s n = told d f .left s n
+
+-- ---- clear, trigger, remote and local
+
+-- what reaches a listener alone leaves the device, reported or not
+listener-leaves : (d : Device) (f : ℕ) (h : Handed) → toListener d f h .device ≡ d
+unfolding toListener
+listener-leaves d f h =
+    chosen (λ (s : Sent). s .device ≡ d) (eqb (d .listener) 1) _ _ (λ e. refl) (λ e. refl)
+
+pub events-reported : EventsReported
+unfolding takes choose toListener
+events-reported =
+    record {
+      clear = λ d f c. ⊎-elim (λ e. rw e) (λ p. rw (p .0, eq-eqb (d .listener) 1 (p .1))) c;
+      trigger = λ d f p. rw (p .0, eq-eqb (d .listener) 1 (p .1));
+      only-clear = λ d f h. told d f .cleared h;
+      only-trigger = λ d f h. told d f .triggered h;
+    }
+
+pub events-change-nothing : EventsChangeNothing
+unfolding takes choose
+events-change-nothing d f (inl e) = rw e
+events-change-nothing d f (inr (inl e)) = rw e (listener-leaves d f Clear)
+events-change-nothing d f (inr (inr e)) = rw e (listener-leaves d f Trigger)
+
+pub others-leave-remote : OthersLeaveRemote
+others-leave-remote d f n = told d f .same n
+
+pub ifc-leaves-remote : IfcLeavesRemote
+unfolding takes choose
+ifc-leaves-remote d f e = rw e (record { remote = refl; enabled = refl })
+
+disabled : (d : Device) → (d .enabled ≡ 1 → ⊥) → toRemote d ≡ d
+unfolding toRemote choose
+disabled d n = rw (ne-eqb (d .enabled) 1 n)
+
+lad-same : (d : Device) (a : ℕ) → (d .enabled ≡ 1 → ⊥) → SameRemote d (lad d a)
+unfolding lad
+lad-same d a n =
+    rw (disabled d n)
+    (chosen (SameRemote d) (eqb a (d .address)) _ d
+    (λ e. chosen (SameRemote d) (able d listen) _ d
+    (λ h. chosen (SameRemote d) (able d unaddress) _ _ (λ u. record { remote = refl; enabled = refl })
+    (λ u. record { remote = refl; enabled = refl }))
+    (λ h. record { remote = refl; enabled = refl }))
+    (λ e. record { remote = refl; enabled = refl }))
+
+pub only-enabled : OnlyEnabled
+unfolding takes choose llo
+only-enabled d f n (inl e) = rw (e, ne-eqb (d .enabled) 1 n) (record { remote = refl; enabled = refl })
+only-enabled d f n (inr e) = rw e (lad-same d _ n)
+
+pub gtl-only-listener : GtlOnlyListener
+unfolding takes choose gtl
+gtl-only-listener d f n e = rw (e, ne-eqb (d .listener) 1 n)
+
+pub key-only-unlocked : KeyOnlyUnlocked
+unfolding key choose
+key-only-unlocked d n = rw (ne-eqb (d .remote) REMS n)

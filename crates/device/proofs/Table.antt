@@ -1,4 +1,4 @@
--- Rows 1 to 13 hold: what is seen in each is computed and compared.
+-- Rows 1 to 14 hold: what is seen in each is computed and compared.
 use mathlib.Core.Path.{refl}
 use Rattle.frame.specs.Messages.{messages, kindAt, lookup, within, firstIn, firstOf}
 use Rattle.frame.specs.Decoding.{hasC1, offsetIn, c1In}

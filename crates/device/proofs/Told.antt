@@ -1,14 +1,13 @@
--- What is told of every frame: five sentences of specs/Sentences.antt together, so that the rules are gone through
--- once.
+-- What is told of every frame: sentences of specs/Sentences.antt together, so that the rules are gone through once.
 use Prim.Native.Nat.{ℕ, _+_, _≤_, _<_}
 use mathlib.Core.Path.{_≡_, refl, sym, ap, _∙_}
-use mathlib.Core.Logic.{inl, inr, ⊎-elim}
+use mathlib.Core.Logic.{_⊎_, inl, inr, ⊎-elim}
 use mathlib.Core.Bool.{Bool, true, _&&_, and-false}
 use native.Mathlib.Omega.{arith}
 use native.Mathlib.Decide.{decLt}
 use lib.Dec.{eqb, ltb}
 use borrow.Author.Tests.{eqb-true, ne-eqb, ltb-false}
-use Rattle.frame.specs.declared.Kind.the-variants.{End, Aad}
+use Rattle.frame.specs.declared.Kind.the-variants.{End, Gtl, Sdc, Get, Llo, Dcl, Aad}
 use Rattle.frame.specs.Messages.{kindAt, messages, firstIn, firstOf, codesIn, codesOf}
 use Rattle.frame.specs.Classes.{IsCommand}
 use Rattle.frame.specs.Decoding.{dab, end, hasC1, decoded}
@@ -19,16 +18,19 @@ use Rattle.device.specs.Choose.{choose}
 use Rattle.device.specs.Device.{listen, status, autoAddress, unaddress, idle, addressed, sendingData}
 use Rattle.device.specs.Device.{sendingStatus, asking, endLast, has, talks, sending}
 use Rattle.device.specs.Change.{listening, talking, placed, counting}
+use Rattle.device.specs.Remote.{toRemote, llo, gtl}
 use Rattle.device.specs.Commands.{lad, tad, aau}
+use Rattle.device.specs.Clear.{reports, toListener}
 use Rattle.device.specs.Reply.{eto, ete, sends, marked, stops, dataFrame, otherByte, otherFrame, otherLength}
 use Rattle.device.specs.Reply.{sendsData, sendsOther, continues}
 use Rattle.device.specs.Ready.{requested, polls, sst, nrd, aad}
 use Rattle.device.specs.Data.{returned, heard, dataOrEnd}
 use Rattle.device.specs.Take.{rules, takes}
-use Rattle.device.specs.Sentences.{Of, ShowsC1, Sending, ShowsService, OfBytes, Zeroed}
+use Rattle.device.specs.Sentences.{Of, ShowsC1, Sending, ShowsService, OfBytes, Zeroed, ClearDue, TriggerDue}
+use Rattle.device.specs.Sentences.{SameRemote, MovesRemote}
 use Rattle.device.specs.declared.Device.{Device}
 use Rattle.device.specs.declared.Handed.{Handed}
-use Rattle.device.specs.declared.Handed.the-variants.{Nothing}
+use Rattle.device.specs.declared.Handed.the-variants.{Nothing, Byte, Clear, Trigger}
 use Rattle.device.specs.Sent.{Sent}
 use Rattle.device.proofs.Dispatch.{outside, elsewhere}
 use Rattle.device.proofs.Classes.{data-frame, idy-frame, aad-codes}
@@ -43,10 +45,26 @@ Left d e = (e .talker ≡ d .talker → ⊥) → Zeroed e
 -- d, given the frame f, does s
 pub record Told (d : Device) (f : ℕ) (s : Sent) : Type 0 where
   pub command : IsCommand f → s .frame ≡ f
-  pub unhanded : Sending d → s .handed ≡ Nothing
+  pub unhanded : Sending d → (b e : ℕ) → s .handed ≡ Byte b e → ⊥
+  pub cleared : s .handed ≡ Clear → ClearDue d f
+  pub triggered : s .handed ≡ Trigger → TriggerDue d f
+  pub same : (MovesRemote f → ⊥) → SameRemote d (s .device)
   pub left : Sending d → Left d (s .device)
   pub shown : OfBytes d → s .device .service ≡ asking → ShowsService (s .frame) → ShowsC1 (s .frame)
   pub asked : OfBytes d → (d .choice ≡ endLast → ⊥) → Of End (s .frame) → Of End f × (d .talker ≤ addressed)
+
+-- the cases of what is handed over, told apart by numbers
+abbrev case : Handed → ℕ
+case Nothing = 0
+case Clear = 1
+case Trigger = 2
+case (Byte b e) = 3
+
+apart : {h k : Handed} {Q : Type 0} → (case h ≡ case k → ⊥) → h ≡ k → Q
+apart n e = absurd (n (ap case e))
+
+unmoved : (d : Device) → SameRemote d d
+unmoved d = record { remote = refl; enabled = refl }
 
 stays : (d e : Device) → e .talker ≡ d .talker → Left d e
 stays d e q n = absurd (n q)
@@ -104,14 +122,27 @@ other-asks d b a = marked-asks d _ (reply dab (otherByte d) refl (other-small d 
 -- ---- commands, and NRD
 
 module _ (d : Device) where
+  remote-talker : toRemote d .talker ≡ d .talker
+  unfolding toRemote
+  remote-talker = chosen (λ (x : Device). x .talker ≡ d .talker) (eqb (d .enabled) 1) _ d (λ e. refl) (λ e. refl)
+
   lad-left : (a : ℕ) → Left d (lad d a)
   unfolding lad
   lad-left a =
       chosen (Left d) (eqb a (d .address)) _ d
       (λ e. chosen (Left d) (has d listen) _ d
-      (λ h. chosen (Left d) (has d unaddress) _ _ (λ u. zeroes d (listening d 1) idle) (λ u. stays d _ refl))
+      (λ h. chosen (Left d) (has d unaddress) _ _ (λ u. zeroes d (listening (toRemote d) 1) idle)
+      (λ u. stays d _ remote-talker))
       (λ h. stays d d refl))
       (λ e. stays d d refl)
+
+  llo-left : Left d (llo d)
+  unfolding llo
+  llo-left = chosen (Left d) (eqb (d .enabled) 1) _ d (λ h. stays d _ refl) (λ h. stays d d refl)
+
+  gtl-left : Left d (gtl d)
+  unfolding gtl
+  gtl-left = chosen (Left d) (eqb (d .listener) 1) _ d (λ h. stays d _ refl) (λ h. stays d d refl)
 
   tad-left : (a : ℕ) → Left d (tad d a)
   unfolding tad
@@ -122,6 +153,31 @@ module _ (d : Device) where
       (λ u. zeroes d d addressed))
       (λ h. zeroes d d idle))
       (λ e. zeroes d d idle)
+
+  tad-same : (a : ℕ) → SameRemote d (tad d a)
+  unfolding tad
+  tad-same a =
+      chosen (SameRemote d) (eqb a (d .address)) _ _
+      (λ e. chosen (SameRemote d) (talks d) _ _
+      (λ h. chosen (SameRemote d) (has d unaddress) _ _ (λ u. record { remote = refl; enabled = refl })
+      (λ u. record { remote = refl; enabled = refl }))
+      (λ h. record { remote = refl; enabled = refl }))
+      (λ e. record { remote = refl; enabled = refl })
+
+  aau-same : SameRemote d (aau d)
+  unfolding aau
+  aau-same =
+      chosen (SameRemote d) (has d autoAddress) _ d (λ h. record { remote = refl; enabled = refl }) (λ h. unmoved d)
+
+  nrd-same : SameRemote d (nrd d)
+  unfolding nrd
+  nrd-same = chosen (SameRemote d) (sending d) _ d (λ h. record { remote = refl; enabled = refl }) (λ h. unmoved d)
+
+  polls-same : SameRemote d (polls d)
+  unfolding polls
+  polls-same =
+      chosen (SameRemote d) (eqb (d .service) asking) _ d (λ h. record { remote = refl; enabled = refl })
+      (λ h. unmoved d)
 
   aau-left : Left d (aau d)
   unfolding aau
@@ -136,23 +192,30 @@ module _ (d : Device) where
 module _ (d : Device) (f : ℕ) (n : IsCommand f → ⊥) where
   -- the frame goes on, C1 set if service is 1
   marks : (m : Message) → Shows m → (m .kind ≡ end → Of End f × (d .talker ≤ addressed)) → (h : Handed) →
-      (Sending d → h ≡ Nothing) → Told d f (record { device = d; frame = marked d m; handed = h })
-  marks m i p h k =
+      (case h ≡ 0) ⊎ (case h ≡ 3) → (Sending d → h ≡ Nothing) →
+      Told d f (record { device = d; frame = marked d m; handed = h })
+  marks m i p h z k =
       record {
         command = λ c. absurd (n c);
-        unhanded = k;
+        unhanded = λ s b e q. apart (λ x. omega arith) (sym (k s) ∙ q);
+        cleared = apart (λ e. ⊎-elim (λ x. omega arith) (λ x. omega arith) z);
+        triggered = apart (λ e. ⊎-elim (λ x. omega arith) (λ x. omega arith) z);
+        same = λ o. unmoved d;
         left = λ s. stays d d refl;
         shown = λ b a s. marked-asks d m i a;
         asked = λ b c e. p (sym (marked-kind d m i) ∙ e);
       }
 
   -- the device e, which is d or is made of d, answers or replies
-  module _ (e : Device) where
+  module _ (e : Device) (p : SameRemote d e) where
     stops-told : (x : ℕ) → 0x400 ≤ x → x < 0x600 → Told d f (stops e x)
     stops-told x l h =
         record {
           command = λ c. absurd (n c);
-          unhanded = λ s. refl;
+          unhanded = λ s b e. apart (λ z. omega arith);
+          cleared = apart (λ e. omega arith);
+          triggered = apart (λ e. omega arith);
+          same = λ o. record { remote = p .remote; enabled = p .enabled };
           left = λ s. zeroes d e addressed;
           shown = λ b a s. absurd (no-service x l h s);
           asked = λ b c e. absurd (no-end x l e);
@@ -162,13 +225,16 @@ module _ (d : Device) (f : ℕ) (n : IsCommand f → ⊥) where
       where
         counting-told : (x s r : ℕ) → (OfBytes e → e .service ≡ asking → ShowsC1 x) →
             (OfBytes e → (e .choice ≡ endLast → ⊥) → Of End x → ⊥) → Told d f (sends (counting e x s r) x)
-        counting-told x s r h p =
+        counting-told x s r h o =
             record {
               command = λ c. absurd (n c);
-              unhanded = λ s. refl;
+              unhanded = λ s b e. apart (λ z. omega arith);
+              cleared = apart (λ e. omega arith);
+              triggered = apart (λ e. omega arith);
+              same = λ o. record { remote = p .remote; enabled = p .enabled };
               left = λ s. stays d _ (same s);
               shown = λ b a s. h (bytes b) a;
-              asked = λ b c i. absurd (p (bytes b) (λ u. c (sym q ∙ u)) i);
+              asked = λ b c i. absurd (o (bytes b) (λ u. c (sym q ∙ u)) i);
             }
 
         data-told : Told d f (sendsData e)
@@ -191,15 +257,16 @@ module _ (d : Device) (f : ℕ) (n : IsCommand f → ⊥) where
   unfolding returned
   returned-told m =
       chosen (Told d f) _ _ _
-      (λ e. chosen (Told d f) (eqb (d .noted) 1) _ _ (λ e. stops-told d eto (omega arith) (omega arith))
-      (λ e. continues-told d (λ s. refl) (λ b. b) refl))
-      (λ e. stops-told d ete (omega arith) (omega arith))
+      (λ e. chosen (Told d f) (eqb (d .noted) 1) _ _ (λ e. stops-told d (unmoved d) eto (omega arith) (omega arith))
+      (λ e. continues-told d (unmoved d) (λ s. refl) (λ b. b) refl))
+      (λ e. stops-told d (unmoved d) ete (omega arith) (omega arith))
 
   heard-told : (m : Message) → Shows m → (m .kind ≡ end → Of End f) → d .talker ≤ addressed → Told d f (heard d m)
   unfolding heard
   heard-told m i k t =
-      chosen (Told d f) (eqb (d .listener) 1) _ _ (λ e. marks m i (λ q. (k q, t)) _ (λ s. absurd (omega arith)))
-      (λ e. marks m i (λ q. (k q, t)) Nothing (λ s. refl))
+      chosen (Told d f) (eqb (d .listener) 1) _ _
+      (λ e. marks m i (λ q. (k q, t)) _ (inr refl) (λ s. absurd (omega arith)))
+      (λ e. marks m i (λ q. (k q, t)) Nothing (inl refl) (λ s. refl))
 
   dataOrEnd-told : (m : Message) → Shows m → (m .kind ≡ end → Of End f) → Told d f (dataOrEnd d m)
   unfolding dataOrEnd
@@ -210,18 +277,51 @@ module _ (d : Device) (f : ℕ) (n : IsCommand f → ⊥) where
 -- ---- frames that go on unchanged where no rule says otherwise
 
 module _ (d : Device) (f : ℕ) (q : ShowsService f → ⊥) where
-  passes : (e : Device) → Left d e → Told d f (sends e f)
-  passes e l =
+  passes : (e : Device) → Left d e → ((MovesRemote f → ⊥) → SameRemote d e) → Told d f (sends e f)
+  passes e l p =
       record {
         command = λ c. refl;
-        unhanded = λ s. refl;
+        unhanded = λ s b e. apart (λ z. omega arith);
+        cleared = apart (λ e. omega arith);
+        triggered = apart (λ e. omega arith);
+        same = p;
         left = λ s. l;
         shown = λ b a s. absurd (q s);
         asked = λ b c e. absurd (q (inl (record { past = end-past f e })));
       }
 
   still : Told d f (sends d f)
-  still = passes d (stays d d refl)
+  still = passes d (stays d d refl) (λ o. unmoved d)
+
+  -- a clear or a trigger
+  events : (h : Handed) → (case h ≡ 3 → ⊥) → (h ≡ Clear → ClearDue d f) → (h ≡ Trigger → TriggerDue d f) →
+      Told d f (reports d f h)
+  events h z c t =
+      record {
+        command = λ c. refl;
+        unhanded = λ s b e. apart z;
+        cleared = c;
+        triggered = t;
+        same = λ o. unmoved d;
+        left = λ s. stays d d refl;
+        shown = λ b a s. absurd (q s);
+        asked = λ b c e. absurd (q (inl (record { past = end-past f e })));
+      }
+
+  dcl-told : Of Dcl f → Told d f (reports d f Clear)
+  dcl-told k = events Clear (λ z. omega arith) (λ h. inl k) (apart (λ e. omega arith))
+
+  sdc-told : Of Sdc f → Told d f (toListener d f Clear)
+  unfolding toListener
+  sdc-told k =
+      chosen (Told d f) (eqb (d .listener) 1) _ _
+      (λ l. events Clear (λ z. omega arith) (λ h. inr (k, eqb-true _ _ l)) (apart (λ e. omega arith))) (λ l. still)
+
+  get-told : Of Get f → Told d f (toListener d f Trigger)
+  unfolding toListener
+  get-told k =
+      chosen (Told d f) (eqb (d .listener) 1) _ _
+      (λ l. events Trigger (λ z. omega arith) (apart (λ e. omega arith)) (λ h. (k, eqb-true _ _ l))) (λ l. still)
 
   aad-told : Of Aad f → (a : ℕ) → Told d f (aad d f a)
   unfolding aad
@@ -234,7 +334,10 @@ module _ (d : Device) (f : ℕ) (q : ShowsService f → ⊥) where
           let w = aad-codes f k in
           record {
             command = λ c. omega (arith, c .past);
-            unhanded = λ s. refl;
+            unhanded = λ s b e. apart (λ z. omega arith);
+            cleared = apart (λ e. omega arith);
+            triggered = apart (λ e. omega arith);
+            same = λ o. record { remote = refl; enabled = refl };
             left = λ s. stays d _ refl;
             shown = λ b a s. absurd (no-service (f + 1) (omega arith) (omega arith) s);
             asked = λ b c e. absurd (no-end (f + 1) (omega arith) e);
@@ -242,23 +345,25 @@ module _ (d : Device) (f : ℕ) (q : ShowsService f → ⊥) where
 
   module _ (n : IsCommand f → ⊥) where
     -- only an addressed device starts a reply, and that one is not sending
-    starts : (able : Bool) (e : Device) → (OfBytes d → OfBytes e) → e .choice ≡ d .choice →
+    starts : (able : Bool) (e : Device) → SameRemote d e → (OfBytes d → OfBytes e) → e .choice ≡ d .choice →
         Told d f (choose (eqb (d .talker) addressed) (choose able (continues e) (sends d f)) (sends d f))
-    starts able e b c =
+    starts able e p b c =
         chosen (Told d f) (eqb (d .talker) addressed) _ _
         (λ t. chosen (Told d f) able _ _
-        (λ h. continues-told d f n e (λ s. omega (arith, eqb-true (d .talker) addressed t)) b c) (λ h. still))
+        (λ h. continues-told d f n e p (λ s. omega (arith, eqb-true (d .talker) addressed t)) b c) (λ h. still))
         (λ t. still)
 
     requested-told : (ability state : ℕ) → Told d f (requested d f ability state)
     unfolding requested
-    requested-told ability state = starts (has d ability) (talking d state) (kept d state) refl
+    requested-told ability state =
+        starts (has d ability) (talking d state) (record { remote = refl; enabled = refl }) (kept d state) refl
 
     sst-told : Told d f (sst d f)
     unfolding sst
     sst-told =
-        starts (has d status) (talking (polls d) sendingStatus) (λ b. kept (polls d) sendingStatus (polls-kept d b))
-        (polls-choice d)
+        let p = polls-same d in
+        starts (has d status) (talking (polls d) sendingStatus) (record { remote = p .remote; enabled = p .enabled })
+        (λ b. kept (polls d) sendingStatus (polls-kept d b)) (polls-choice d)
 
   no-command : (k : ℕ) → outside 0x400 0x500 k ≡ true → kindAt f ≡ k → IsCommand f → ⊥
   no-command k o e c = elsewhere 0x400 0x500 f k (c .first) (c .past) o e
@@ -268,22 +373,29 @@ module _ (d : Device) (f : ℕ) (q : ShowsService f → ⊥) where
   unfolding takes messages firstIn firstOf codesIn codesOf hasC1
   rules-told =
       selected (Told d f) (kindAt f) (rules d f (decoded f)) (sends d f) still
-      (λ e. passes _ (lad-left d _))
-      (λ e. passes _ (stays d _ refl))
-      (λ e. passes _ (tad-left d _))
-      (λ e. passes _ (zeroes d d idle))
-      (λ e. passes _ (zeroes d (listening d 0) idle))
-      (λ e. passes _ (aau-left d))
+      (λ e. passes _ (lad-left d _) (λ o. absurd (o (inr (inr (inl e))))))
+      (λ e. passes _ (stays d _ refl) (λ o. record { remote = refl; enabled = refl }))
+      (λ e. passes _ (tad-left d _) (λ o. tad-same d _))
+      (λ e. passes _ (zeroes d d idle) (λ o. record { remote = refl; enabled = refl }))
+      (λ e. passes _ (zeroes d (listening d 0) idle) (λ o. record { remote = refl; enabled = refl }))
+      (λ e. passes _ (aau-left d) (λ o. aau-same d))
+      (λ e. dcl-told e)
+      (λ e. sdc-told e)
+      (λ e. get-told e)
+      (λ e. passes _ (stays d _ refl) (λ o. absurd (o (inl e))))
+      (λ e. passes _ (stays d _ refl) (λ o. absurd (o (inr (inl e)))))
+      (λ e. passes _ (llo-left d) (λ o. absurd (o (inr (inr (inr (inl e)))))))
+      (λ e. passes _ (gtl-left d) (λ o. absurd (o (inr (inr (inr (inr e)))))))
       (λ e. requested-told (no-command _ refl e) _ _)
       (λ e. sst-told (no-command _ refl e))
       (λ e. requested-told (no-command _ refl e) _ _)
       (λ e. requested-told (no-command _ refl e) _ _)
-      (λ e. passes _ (nrd-left d))
+      (λ e. passes _ (nrd-left d) (λ o. nrd-same d))
       (λ e. aad-told e _)
       (λ e. dataOrEnd-told d f (no-command _ refl e) _ (shows f (ap hasC1 e)) (λ k. k))
       (λ e. dataOrEnd-told d f (no-command _ refl e) _ (shows f (ap hasC1 e)) (λ k. k))
       (λ e. marks d f (no-command _ refl e) _ (shows f (ap hasC1 e)) (λ k. absurd (omega (arith, e, k))) Nothing
-      (λ s. refl))
+      (inl refl) (λ s. refl))
 
 shows? : (f : ℕ) → Dec (ShowsService f)
 shows? f = go (decLt f 0x400) (decLt f 0x600) (decLt f 0x800)
@@ -303,5 +415,5 @@ told d f = go (shows? f)
     go (yes (inr i)) =
         rw (idy-frame d f (i .first) (i .past))
         (marks d f (λ c. omega arith) _ (idy-shows f (i .first) (i .past))
-        (λ k. absurd (omega (arith, idy-kind f (i .first) (i .past), k))) Nothing (λ s. refl))
+        (λ k. absurd (omega (arith, idy-kind f (i .first) (i .past), k))) Nothing (inl refl) (λ s. refl))
     go (no q) = rules-told d f q

@@ -42,6 +42,12 @@ last = 14
 abbrev pub replied : ℕ
 replied = 16
 
+abbrev pub remote : ℕ
+remote = 17
+
+abbrev pub enabled : ℕ
+enabled = 18
+
 abbrev pub choice : ℕ
 choice = 19
 
@@ -78,6 +84,8 @@ remade d es load =
       sent = after es sent (d .sent);
       last = after es last (d .last);
       replied = after es replied (d .replied);
+      remote = after es remote (d .remote);
+      enabled = after es enabled (d .enabled);
       choice = after es choice (d .choice);
       id = d .id;
       load = load;
@@ -110,6 +118,14 @@ noting d = changed d (noted becomes 1 ∷ [])
 -- last frame sent f, bytes of the data sent s, bytes of another reply sent r
 abbrev pub counting : Device → (f s r : ℕ) → Device
 counting d f s r = changed d (last becomes f ∷ sent becomes s ∷ replied becomes r ∷ [])
+
+-- state x of remote and local
+abbrev pub remoting : Device → ℕ → Device
+remoting d x = changed d (remote becomes x ∷ [])
+
+-- remote enable flag x
+abbrev pub enabling : Device → ℕ → Device
+enabling d x = changed d (enabled becomes x ∷ [])
 
 -- choice e
 abbrev pub choosing : Device → ℕ → Device

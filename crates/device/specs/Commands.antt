@@ -1,16 +1,19 @@
--- Commands (01, What a device does with a frame): each goes on unchanged, and this is the device after it.
+-- Commands (01, What a device does with a frame; 02, d): each goes on unchanged, and this is the device after it.
 use Prim.Native.Nat.{ℕ}
 use lib.Dec.{eqb}
 use Rattle.device.specs.Choose.{choose}
 use Rattle.device.specs.Device.{listen, autoAddress, unaddress, idle, addressed, has, talks}
 use Rattle.device.specs.Change.{listening, talking, placed}
+use Rattle.device.specs.Remote.{toRemote}
 use Rattle.device.specs.declared.Device.{Device}
 
--- LAD a, equal to the address now, with ability 1: listener 1, and with 64 talker 0
+-- LAD a, equal to the address now, with ability 1: to remote while enabled; listener 1, and with 64 talker 0
 unfoldable pub lad : Device → ℕ → Device
 lad d a =
     choose (eqb a (d .address))
-    (choose (has d listen) (choose (has d unaddress) (talking (listening d 1) idle) (listening d 1)) d)
+    (choose (has d listen)
+    (choose (has d unaddress) (talking (listening (toRemote d) 1) idle) (listening (toRemote d) 1))
+    d)
     d
 
 -- UNL: listener 0

@@ -69,6 +69,19 @@ endLast = 1
 abbrev pub isChoice : ℕ → Bool
 isChoice e = leb e endLast
 
+-- local and remote, and each of them locked, by 001's names (2.17; 02, d)
+abbrev pub LOCS : ℕ
+LOCS = 0
+
+abbrev pub REMS : ℕ
+REMS = 1
+
+abbrev pub LWLS : ℕ
+LWLS = 2
+
+abbrev pub RWLS : ℕ
+RWLS = 3
+
 -- the fixed address of a device that has none
 abbrev pub noAddress : ℕ
 noAddress = 31

@@ -3,7 +3,7 @@
 use Prim.Native.Nat.{ℕ, zero, suc}
 use mathlib.Core.List.{List, [], _∷_}
 use lib.ListN.{getD, replicate}
-use Rattle.device.specs.Device.{idle, noService, plainLast, mostID, mostData}
+use Rattle.device.specs.Device.{idle, noService, LOCS, plainLast, mostID, mostData}
 use Rattle.device.specs.declared.Device.{Device}
 
 -- the n bytes of b from place k on, 0 past its end
@@ -30,6 +30,8 @@ powerOn item =
       sent = 0;
       last = 0;
       replied = 0;
+      remote = LOCS;
+      enabled = 0;
       choice = plainLast;
       id = bytesFrom 4 mostID item;
       load = replicate mostData 0;

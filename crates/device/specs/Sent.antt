@@ -1,4 +1,5 @@
--- What a device does with a frame: the device after it, the frame that it sends and what it is handed.
+-- What a device does with a frame: the device after it, the frame that it sends, and what is handed to the instrument
+-- behind it: nothing, a byte, a clear or a trigger.
 use Prim.Native.Nat.{ℕ}
 use Rattle.device.specs.declared.Device.{Device}
 use Rattle.device.specs.declared.Handed.{Handed}

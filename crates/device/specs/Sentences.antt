@@ -1,5 +1,5 @@
--- Sentences of 01, "What a device does with a frame", in its order, and of 02, b and h: each holds for every frame and
--- every device, sound or not, but for those that ask for bytes. Proved in proofs/Sentences.antt.
+-- Sentences of 01, "What a device does with a frame", in its order, and of 02, b, d and h: each holds for every frame
+-- that it speaks of and every device, sound or not, but for those that ask for bytes. Proved in proofs/Sentences.antt.
 use Prim.Native.Nat.{ℕ, _+_, _≤_, _<_}
 use mathlib.Core.Path.{_≡_}
 use mathlib.Core.Bool.{true}
@@ -7,17 +7,19 @@ use mathlib.Core.Logic.{_⊎_}
 use lib.Dec.{eqb}
 use lib.ListN.{getD}
 use Rattle.frame.specs.declared.Kind.{Kind}
-use Rattle.frame.specs.declared.Kind.the-variants.{End, Lad, Tad, Sda, Aad}
+use Rattle.frame.specs.declared.Kind.the-variants.{End, Gtl, Sdc, Get, Llo, Dcl, Lad, Tad, Ifc, Ren, Nre, Sda, Aad}
 use Rattle.frame.specs.Messages.{numberOf}
 use Rattle.frame.specs.Classes.{IsData, IsCommand, IsIdentify}
 use Rattle.frame.specs.Decoding.{decoded, frameOf}
 use Rattle.device.specs.Choose.{choose}
-use Rattle.device.specs.Device.{sendData, idle, addressed, sendingData, asking, endLast, noAddress, has}
+use Rattle.device.specs.Device.{sendData, idle, addressed, sendingData, asking, REMS, endLast, noAddress}
+use Rattle.device.specs.Device.{has}
 use Rattle.device.specs.Change.{talking}
 use Rattle.device.specs.Reply.{eto, ete, sends, withC1, stops, continues}
+use Rattle.device.specs.Remote.{key}
 use Rattle.device.specs.Take.{takes}
 use Rattle.device.specs.declared.Device.{Device}
-use Rattle.device.specs.declared.Handed.the-variants.{Nothing}
+use Rattle.device.specs.declared.Handed.the-variants.{Nothing, Byte, Clear, Trigger}
 
 -- the frame is of this kind
 abbrev pub Of : Kind → ℕ → Type 0
@@ -47,9 +49,9 @@ NoTadIs31 = (d : Device) (f : ℕ) → d .address ≡ noAddress → Of Tad f →
 abbrev pub ConfiguredPassesAad : Type 0
 ConfiguredPassesAad = (d : Device) (f : ℕ) → (d .configured ≡ 0 → ⊥) → Of Aad f → takes d f ≡ sends d f
 
--- In states 2-5 data or end is the device's own frame come back: not handed (nor is any other frame),
+-- In states 2-5 data or end is the device's own frame come back: not handed (nor is a byte of any other frame),
 abbrev pub OwnNotHanded : Type 0
-OwnNotHanded = (d : Device) (f : ℕ) → Sending d → takes d f .handed ≡ Nothing
+OwnNotHanded = (d : Device) (f b e : ℕ) → Sending d → takes d f .handed ≡ Byte b e → ⊥
 
 -- and not passed: ETE goes out, or ETO, or the reply's next byte (which of them, `returned` says).
 abbrev pub OwnNotPassed : Type 0
@@ -129,3 +131,52 @@ pub record Zeroed (d : Device) : Type 0 where
 abbrev pub LeavingZeroes : Type 0
 LeavingZeroes =
     (d : Device) (f : ℕ) → Sending d → (takes d f .device .talker ≡ d .talker → ⊥) → Zeroed (takes d f .device)
+
+-- ---- Clear, trigger, remote and local (02, d)
+
+-- a clear is due: DCL at every device, SDC at an addressed listener; and a trigger: GET at an addressed listener
+abbrev pub ClearDue : Device → ℕ → Type 0
+ClearDue d f = Of Dcl f ⊎ (Of Sdc f × (d .listener ≡ 1))
+
+abbrev pub TriggerDue : Device → ℕ → Type 0
+TriggerDue d f = Of Get f × (d .listener ≡ 1)
+
+-- Each is reported where it is due, and only there.
+pub record EventsReported : Type 0 where
+  pub clear : (d : Device) (f : ℕ) → ClearDue d f → takes d f .handed ≡ Clear
+  pub trigger : (d : Device) (f : ℕ) → TriggerDue d f → takes d f .handed ≡ Trigger
+  pub only-clear : (d : Device) (f : ℕ) → takes d f .handed ≡ Clear → ClearDue d f
+  pub only-trigger : (d : Device) (f : ℕ) → takes d f .handed ≡ Trigger → TriggerDue d f
+
+-- A clear or trigger changes no record, nor does its message where none is due.
+abbrev pub EventsChangeNothing : Type 0
+EventsChangeNothing = (d : Device) (f : ℕ) → Of Dcl f ⊎ (Of Sdc f ⊎ Of Get f) → takes d f .device ≡ d
+
+-- the state of remote and local and the flag stay
+pub record SameRemote (d e : Device) : Type 0 where
+  pub remote : e .remote ≡ d .remote
+  pub enabled : e .enabled ≡ d .enabled
+
+-- the messages that 001, 2.17, speaks of
+abbrev pub MovesRemote : ℕ → Type 0
+MovesRemote f = Of Ren f ⊎ (Of Nre f ⊎ (Of Lad f ⊎ (Of Llo f ⊎ Of Gtl f)))
+
+-- Every other message leaves state and flag as they are,
+abbrev pub OthersLeaveRemote : Type 0
+OthersLeaveRemote = (d : Device) (f : ℕ) → (MovesRemote f → ⊥) → SameRemote d (takes d f .device)
+
+-- IFC among them.
+abbrev pub IfcLeavesRemote : Type 0
+IfcLeavesRemote = (d : Device) (f : ℕ) → Of Ifc f → SameRemote d (takes d f .device)
+
+-- LLO and own LAD act only while enabled,
+abbrev pub OnlyEnabled : Type 0
+OnlyEnabled = (d : Device) (f : ℕ) → (d .enabled ≡ 1 → ⊥) → Of Llo f ⊎ Of Lad f → SameRemote d (takes d f .device)
+
+-- and GTL only at an addressed listener.
+abbrev pub GtlOnlyListener : Type 0
+GtlOnlyListener = (d : Device) (f : ℕ) → (d .listener ≡ 1 → ⊥) → Of Gtl f → takes d f .device ≡ d
+
+-- The key does nothing where locked, nor in local.
+abbrev pub KeyOnlyUnlocked : Type 0
+KeyOnlyUnlocked = (d : Device) → (d .remote ≡ REMS → ⊥) → key d ≡ d

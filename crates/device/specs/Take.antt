@@ -5,13 +5,15 @@ use mathlib.Core.List.{List, [], _∷_}
 use lib.Dec.{eqb}
 use Rattle.frame.specs.declared.Kind.{Kind}
 use Rattle.frame.specs.declared.Kind.the-variants.{Dab, End, Lad, Unl, Tad, Unt, Ifc, Aau, Nrd, Sda, Sst, Sdi, Sai, Aad}
-use Rattle.frame.specs.declared.Kind.the-variants.{Idy}
+use Rattle.frame.specs.declared.Kind.the-variants.{Idy, Gtl, Sdc, Get, Llo, Dcl, Ren, Nre}
 use Rattle.frame.specs.Messages.{numberOf}
 use Rattle.frame.specs.Decoding.{decoded}
 use Rattle.frame.specs.declared.Message.{Message}
 use Rattle.device.specs.Choose.{choose}
 use Rattle.device.specs.Device.{sendData, deviceID, accessoryID, sendingData, sendingDeviceID, sendingAccessoryID}
 use Rattle.device.specs.Commands.{lad, unl, tad, unt, ifc, aau}
+use Rattle.device.specs.Clear.{dcl, sdc, get}
+use Rattle.device.specs.Remote.{ren, nre, llo, gtl}
 use Rattle.device.specs.Reply.{sends}
 use Rattle.device.specs.Ready.{requested, sst, nrd, aad}
 use Rattle.device.specs.Data.{dataOrEnd, idy}
@@ -34,6 +36,13 @@ rules d f m =
     on Unt (sends (unt d) f) ∷
     on Ifc (sends (ifc d) f) ∷
     on Aau (sends (aau d) f) ∷
+    on Dcl (dcl d f) ∷
+    on Sdc (sdc d f) ∷
+    on Get (get d f) ∷
+    on Ren (sends (ren d) f) ∷
+    on Nre (sends (nre d) f) ∷
+    on Llo (sends (llo d) f) ∷
+    on Gtl (sends (gtl d) f) ∷
     on Sda (requested d f sendData sendingData) ∷
     on Sst (sst d f) ∷
     on Sdi (requested d f deviceID sendingDeviceID) ∷

@@ -19,15 +19,19 @@ pub struct Device {
     pub sent: u8,
     pub last: u16,
     pub replied: u8,
+    pub remote: u8,
+    pub enabled: u8,
     pub choice: u8,
     pub id: [u8; Device::MOST_ID],
     pub load: [u8; Device::MOST_DATA],
 }
 
-// A byte handed to a listener, with its end bit C2.
+// What is handed to the instrument behind a device: a byte to a listener, with its end bit C2; a clear, or a trigger.
 pub enum Handed {
     Nothing,
     Byte(u8, u8),
+    Clear,
+    Trigger,
 }
 
 impl Device {
@@ -68,6 +72,15 @@ impl Device {
 
     pub const POLLED: u8 = 2;
 
+    // Local and remote, and each of them locked, by 001's names (2.17).
+    pub const LOCS: u8 = 0;
+
+    pub const REMS: u8 = 1;
+
+    pub const LWLS: u8 = 2;
+
+    pub const RWLS: u8 = 3;
+
     // The choice of a load: how the last byte of its data goes out.
     pub const PLAIN_LAST: u8 = 0;
 
@@ -102,6 +115,8 @@ impl Device {
             sent: 0,
             last: 0,
             replied: 0,
+            remote: Self::LOCS,
+            enabled: 0,
             choice: Self::PLAIN_LAST,
             id: [
                 item[4],

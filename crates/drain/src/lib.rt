@@ -5,6 +5,7 @@ use area::lookup::devices_in;
 use area::lookup::oldest_at;
 use area::lookup::room_at;
 use calls::DrainAnswer;
+use calls::NO_EVENT;
 use hop::hop_at;
 use judge::judge;
 ghost use mathlib.Core.Path.{_≡_};
@@ -13,12 +14,14 @@ ghost use Rattle.area.specs.Loop.{judgeOf, loopOf, HasDevice};
 ghost use Rattle.calls.specs.Outcome.{Is, afterOf};
 ghost use Rattle.calls.specs.Drain.{noDrain, canHop, drainIn, drainOf};
 
-// Why a drain stops: no hop is possible, the budget is spent, a byte was handed.
+// Why a drain stops: no hop is possible, the budget is spent, a byte was handed, a clear or trigger was reported.
 const NO_HOP_LEFT: u8 = 0;
 
 const BUDGET_SPENT: u8 = 1;
 
 const BYTE_HANDED: u8 = 2;
+
+const EVENT_REPORTED: u8 = 3;
 
 fn no_drain(refusal: u8) -> DrainAnswer
     ensures { λ r. ⌜ r ≡ noDrain refusal ⌝ }
@@ -92,6 +95,11 @@ fn drain_in(area: &mut [u8], budget: u64) -> DrainAnswer
             byte = answer.byte;
             end = answer.end;
             break 'turns BYTE_HANDED;
+        }
+        if answer.event != NO_EVENT {
+            device = i as u8;
+            byte = answer.event;
+            break 'turns EVENT_REPORTED;
         }
         top = past(i, n);
     };

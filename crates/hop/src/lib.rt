@@ -6,9 +6,12 @@ use area::change::remove_at;
 use area::lookup::oldest_at;
 use area::lookup::record_start;
 use area::lookup::room_at;
+use calls::CLEAR;
 use calls::EMPTY;
 use calls::FULL;
 use calls::HopAnswer;
+use calls::NO_EVENT;
+use calls::TRIGGER;
 use device::Handed;
 use find::Found;
 use find::find;
@@ -31,10 +34,25 @@ fn no_hop(refusal: u8) -> HopAnswer
         handed: 0,
         byte: 0,
         end: 0,
+        event: NO_EVENT,
     }
 }
 
-// What a hop sent, and the byte handed, if any.
+// What a hop that handed no byte answers.
+fn no_byte(frame: u16, event: u8) -> HopAnswer
+    ensures { λ r. ⌜ r ≡ record { frame = frame; refusal = 0; handed = 0; byte = 0; end = 0; event = event } ⌝ }
+{
+    HopAnswer {
+        frame,
+        refusal: 0,
+        handed: 0,
+        byte: 0,
+        end: 0,
+        event,
+    }
+}
+
+// What a hop sent, and the byte handed or the event reported, if any.
 fn hop_answer(passed: Passed) -> HopAnswer
     ensures { λ r. ⌜ r ≡ hopAnswer (passed .frame) (passed .handed) ⌝ }
 {
@@ -47,14 +65,11 @@ fn hop_answer(passed: Passed) -> HopAnswer
             handed: 1,
             byte,
             end,
+            event: NO_EVENT,
         },
-        Handed::Nothing => HopAnswer {
-            frame,
-            refusal: 0,
-            handed: 0,
-            byte: 0,
-            end: 0,
-        },
+        Handed::Clear => no_byte(frame, CLEAR),
+        Handed::Trigger => no_byte(frame, TRIGGER),
+        Handed::Nothing => no_byte(frame, NO_EVENT),
     }
 }
 

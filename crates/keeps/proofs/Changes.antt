@@ -8,7 +8,8 @@ use lib.ListN.{length}
 use lib.Dec.{ltb}
 use borrow.Author.Tests.{eq-eqb, lt-ltb}
 use Rattle.device.specs.Device.{has, talks, mostData}
-use Rattle.device.specs.Change.{listening, talking, placed, serving, noting, choosing, loading, statusing}
+use Rattle.device.specs.Change.{listening, talking, placed, serving, noting, remoting, enabling, choosing, loading}
+use Rattle.device.specs.Change.{statusing}
 use Rattle.device.specs.declared.Device.{Device}
 use Rattle.device.proofs.Bytes.{bytes-wide}
 use Rattle.record.specs.Fits.{Bytes}
@@ -46,6 +47,7 @@ module _ (d : Device) (k : Kept d) where
         placed = k .placed;
         listens = record { listener = m; able = eq-in h };
         serves = k .serves;
+        remotes = k .remotes;
         loads = k .loads;
         talks = k .talks;
       }
@@ -59,6 +61,7 @@ module _ (d : Device) (k : Kept d) where
         placed = k .placed;
         listens = k .listens;
         serves = k .serves;
+        remotes = k .remotes;
         loads = k .loads;
         talks = rested d x m h;
       }
@@ -79,6 +82,7 @@ module _ (d : Device) (k : Kept d) where
             };
         listens = k .listens;
         serves = k .serves;
+        remotes = k .remotes;
         loads = k .loads;
         talks = k .talks;
       }
@@ -91,6 +95,7 @@ module _ (d : Device) (k : Kept d) where
         placed = k .placed;
         listens = k .listens;
         serves = record { service = m; able = lt-in h };
+        remotes = k .remotes;
         loads = k .loads;
         talks = k .talks;
       }
@@ -104,6 +109,7 @@ module _ (d : Device) (k : Kept d) where
         placed = k .placed;
         listens = k .listens;
         serves = k .serves;
+        remotes = k .remotes;
         loads = k .loads;
         talks =
             record {
@@ -144,6 +150,7 @@ module _ (d : Device) (k : Kept d) where
         placed = k .placed;
         listens = k .listens;
         serves = k .serves;
+        remotes = k .remotes;
         loads =
             record {
               loadlength = m;
@@ -171,6 +178,32 @@ module _ (d : Device) (k : Kept d) where
             };
       }
 
+  pub remoting-kept : (x : ℕ) → x ≤ 3 → Kept (remoting d x)
+  remoting-kept x h =
+      record {
+        sized = k .sized;
+        made = k .made;
+        placed = k .placed;
+        listens = k .listens;
+        serves = k .serves;
+        remotes = record { remote = h; enabled = k .remotes .enabled };
+        loads = k .loads;
+        talks = k .talks;
+      }
+
+  pub enabling-kept : (x : ℕ) → x ≤ 1 → Kept (enabling d x)
+  enabling-kept x h =
+      record {
+        sized = k .sized;
+        made = k .made;
+        placed = k .placed;
+        listens = k .listens;
+        serves = k .serves;
+        remotes = record { remote = k .remotes .remote; enabled = h };
+        loads = k .loads;
+        talks = k .talks;
+      }
+
   pub choosing-kept : (e : ℕ) → e ≤ 1 → Kept (choosing d e)
   choosing-kept e h =
       let l = k .loads in
@@ -180,6 +213,7 @@ module _ (d : Device) (k : Kept d) where
         placed = k .placed;
         listens = k .listens;
         serves = k .serves;
+        remotes = k .remotes;
         loads =
             record { loadlength = l .loadlength; loadzero = l .loadzero; able = l .able; sent = l .sent; choice = h };
         talks = k .talks;
@@ -202,6 +236,7 @@ module _ (d : Device) (k : Kept d) where
         placed = k .placed;
         listens = k .listens;
         serves = k .serves;
+        remotes = k .remotes;
         loads = k .loads;
         talks = k .talks;
       }

@@ -1,4 +1,4 @@
--- Soundness, sorted by what a change touches: seven groups of facts, each of which reads only some of the fields. A
+-- Soundness, sorted by what a change touches: eight groups of facts, each of which reads only some of the fields. A
 -- change leaves the groups alone that do not read what it changes.
 use Prim.Native.Nat.{ℕ, _≤_, _<_}
 use mathlib.Core.Path.{_≡_, refl}
@@ -43,6 +43,9 @@ Listens d = record { listener : d .listener ≤ 1; able : listenerAble d ≡ tru
 
 abbrev pub Serves : Device → Type 0
 Serves d = record { service : d .service ≤ 2; able : serviceAble d ≡ true }
+
+abbrev pub Remotes : Device → Type 0
+Remotes d = record { remote : d .remote ≤ 3; enabled : d .enabled ≤ 1 }
 
 abbrev pub Loads : Device → Type 0
 Loads d =
@@ -92,6 +95,7 @@ pub record Kept (d : Device) : Type 0 where
   pub placed : Placed d
   pub listens : Listens d
   pub serves : Serves d
+  pub remotes : Remotes d
   pub loads : Loads d
   pub talks : Talks d
 
@@ -162,7 +166,8 @@ clauses d =
 abbrev ranges : Device → List Bool
 ranges d =
     leb (d .fixed) 31 ∷ leb (d .address) 31 ∷ leb (d .configured) 1 ∷ leb (d .listener) 1 ∷ leb (d .talker) 5 ∷
-    leb (d .service) 2 ∷ leb (d .noted) 1 ∷ leb (d .idlength) 8 ∷ leb (d .loadlength) 32 ∷
+    leb (d .service) 2 ∷ leb (d .noted) 1 ∷ leb (d .idlength) 8 ∷ leb (d .loadlength) 32 ∷ leb (d .remote) 3 ∷
+    leb (d .enabled) 1 ∷
     leb (d .choice) 1 ∷ []
 
 abbrev states : Device → List Bool
@@ -249,13 +254,18 @@ module _ (d : Device) (g : Good d) where
             };
         listens = record { listener = leb-true _ _ (range .1 .1 .1 .0); able = sounds .1 .1 .1 .1 .1 .1 .0 };
         serves = record { service = leb-true _ _ (range .1 .1 .1 .1 .1 .0); able = sounds .1 .1 .1 .1 .1 .1 .1 .0 };
+        remotes =
+            record {
+              remote = leb-true _ _ (range .1 .1 .1 .1 .1 .1 .1 .1 .1 .0);
+              enabled = leb-true _ _ (range .1 .1 .1 .1 .1 .1 .1 .1 .1 .1 .0);
+            };
         loads =
             record {
               loadlength = leb-true _ _ (range .1 .1 .1 .1 .1 .1 .1 .1 .0);
               loadzero = past .1 .0;
               able = sounds .1 .1 .1 .1 .1 .1 .1 .1 .1 .1 .0;
               sent = leb-true _ _ (sent .0);
-              choice = leb-true _ _ (range .1 .1 .1 .1 .1 .1 .1 .1 .1 .0);
+              choice = leb-true _ _ (range .1 .1 .1 .1 .1 .1 .1 .1 .1 .1 .1 .0);
             };
         talks = talked;
       }
@@ -279,7 +289,13 @@ module _ (d : Device) (k : Kept d) where
                     le-leb _ _ (k .talks .noted),
                     (
                       le-leb _ _ (k .made .idlength),
-                      (le-leb _ _ (k .loads .loadlength), (le-leb _ _ (k .loads .choice), tt)),
+                      (
+                        le-leb _ _ (k .loads .loadlength),
+                        (
+                          le-leb _ _ (k .remotes .remote),
+                          (le-leb _ _ (k .remotes .enabled), (le-leb _ _ (k .loads .choice), tt)),
+                        ),
+                      ),
                     ),
                   ),
                 ),
@@ -379,6 +395,8 @@ module _ (d : Device) (k : Kept d) where
         sent = omega (arith, k .loads .sent, k .loads .loadlength);
         last = omega (arith, k .talks .last);
         replied = replied-small;
+        remote = omega (arith, k .remotes .remote);
+        enabled = omega (arith, k .remotes .enabled);
         choice = omega (arith, k .loads .choice);
         id = k .sized .id;
         load = k .sized .load;

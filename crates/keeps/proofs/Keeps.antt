@@ -13,14 +13,17 @@ use Rattle.frame.specs.Decoding.{hasC1, decoded}
 use Rattle.frame.specs.declared.Message.{Message}
 use Rattle.device.specs.Choose.{choose}
 use Rattle.device.specs.Device.{has, talks, sendData, status, isChoice, sending}
-use Rattle.device.specs.Change.{listening, talking}
+use Rattle.device.specs.Change.{listening, talking, remoting}
+use Rattle.device.specs.Remote.{ren, nre, moves, toRemote, llo, gtl, key}
 use Rattle.device.specs.Commands.{lad, tad, ifc, aau}
+use Rattle.device.specs.Clear.{reports, toListener}
 use Rattle.device.specs.Reply.{sends, marked, eto, ete}
 use Rattle.device.specs.Ready.{requested, polls, sst, nrd, aad}
 use Rattle.device.specs.Data.{returned, heard, dataOrEnd}
 use Rattle.device.specs.Take.{rules, takes}
 use Rattle.record_local.specs.Local.{loads, setsStatus, wishing, wishes}
 use Rattle.device.specs.declared.Device.{Device}
+use Rattle.device.specs.declared.Handed.{Handed}
 use Rattle.device.specs.Sentences.{Of}
 use Rattle.device.proofs.Classes.{aad-codes, aad-address}
 use Rattle.device.proofs.Chosen.{chosen, selected}
@@ -28,15 +31,65 @@ use Rattle.device.proofs.Marked.{Shows, shows, marked-below}
 use Rattle.record_local.specs.Local.{Called}
 use Rattle.record.specs.Fits.{Good}
 use Rattle.keeps.specs.Keeps.{TakeKeeps, TakeBelow, LoadKeeps, StatusKeeps, WishKeeps, LastIsData}
-use Rattle.keeps.specs.Keeps.{ChoiceKeeps, GoodOfBytes}
+use Rattle.keeps.specs.Keeps.{ChoiceKeeps, KeyKeeps, GoodOfBytes}
 use Rattle.keeps.proofs.Groups.{Kept, kept-of, good-of, lt-out}
 use Rattle.keeps.proofs.Changes.{listening-kept, resting-kept, placed-kept, serving-kept, noting-kept}
-use Rattle.keeps.proofs.Changes.{loading-kept, choosing-kept, statusing-kept}
+use Rattle.keeps.proofs.Changes.{remoting-kept, enabling-kept, loading-kept, choosing-kept, statusing-kept}
 use Rattle.keeps.proofs.Replies.{Out, others, Sends, stops-out, continues-out}
 
 -- the frame goes on, and the device after it is sound
 passes : (d : Device) (f : ℕ) → Kept d → Out f (sends d f)
 passes d f k = record { device = k; frame = λ i. i }
+
+-- ---- remote and local
+
+-- a move between the four states ends in one of them
+moves-few : (s a b c e : ℕ) → s ≤ 3 → b ≤ 3 → e ≤ 3 → moves s a b c e ≤ 3
+unfolding moves
+moves-few s a b c e h i j =
+    chosen (λ x. x ≤ 3) (eqb s a) b _ (λ p. i) (λ p. chosen (λ x. x ≤ 3) (eqb s c) e s (λ q. j) (λ q. h))
+
+module _ (d : Device) (k : Kept d) where
+  -- moved where a test says so
+  moved-kept : (test : Bool) (a b c e : ℕ) → b ≤ 3 → e ≤ 3 →
+      Kept (choose test (remoting d (moves (d .remote) a b c e)) d)
+  moved-kept test a b c e i j =
+      chosen Kept test _ d (λ t. remoting-kept d k _ (moves-few (d .remote) a b c e (k .remotes .remote) i j)) (λ t. k)
+
+  remote-kept : Kept (toRemote d)
+  unfolding toRemote
+  remote-kept = moved-kept (eqb (d .enabled) 1) _ _ _ _ (omega arith) (omega arith)
+
+  llo-kept : Kept (llo d)
+  unfolding llo
+  llo-kept = moved-kept (eqb (d .enabled) 1) _ _ _ _ (omega arith) (omega arith)
+
+  gtl-kept : Kept (gtl d)
+  unfolding gtl
+  gtl-kept = moved-kept (eqb (d .listener) 1) _ _ _ _ (omega arith) (omega arith)
+
+  ren-kept : Kept (ren d)
+  ren-kept = enabling-kept d k 1 (omega arith)
+
+  nre-kept : Kept (nre d)
+  nre-kept = enabling-kept (remoting d 0) (remoting-kept d k 0 (omega arith)) 0 (omega arith)
+
+  key-kept : Kept (key d)
+  unfolding key
+  key-kept = chosen Kept (eqb (d .remote) 1) _ d (λ e. remoting-kept d k 0 (omega arith)) (λ e. k)
+
+remote-able : (d : Device) (x : ℕ) → has d x ≡ true → has (toRemote d) x ≡ true
+unfolding toRemote
+remote-able d x h = chosen (λ y. has y x ≡ true) (eqb (d .enabled) 1) _ d (λ e. h) (λ e. h)
+
+-- ---- clear and trigger
+
+reports-out : (d : Device) (f : ℕ) (h : Handed) → Kept d → Out f (reports d f h)
+reports-out d f h k = record { device = k; frame = λ i. i }
+
+listener-out : (d : Device) (f : ℕ) (h : Handed) → Kept d → Out f (toListener d f h)
+unfolding toListener
+listener-out d f h k = chosen (Out f) (eqb (d .listener) 1) _ _ (λ e. reports-out d f h k) (λ e. passes d f k)
 
 -- ---- commands
 
@@ -57,10 +110,12 @@ module _ (d : Device) (k : Kept d) where
       (λ e. chosen Kept (has d 1) _ d (λ h. heard-kept h) (λ h. k))
       (λ e. k)
     where
-      heard-kept : has d 1 ≡ true → Kept (choose (has d 64) (talking (listening d 1) 0) (listening d 1))
+      heard-kept : has d 1 ≡ true →
+          Kept (choose (has d 64) (talking (listening (toRemote d) 1) 0) (listening (toRemote d) 1))
       heard-kept h =
-          let l : Kept (listening d 1) = listening-kept d k 1 (omega arith) (λ e. h) in
-          chosen Kept (has d 64) _ _ (λ u. resting-kept (listening d 1) l 0 (omega arith) (λ e. absurd (omega arith)))
+          let r = toRemote d in
+          let l = listening-kept r (remote-kept d k) 1 (omega arith) (λ e. remote-able d 1 h) in
+          chosen Kept (has d 64) _ _ (λ u. resting-kept (listening r 1) l 0 (omega arith) (λ e. absurd (omega arith)))
           (λ u. l)
 
   tad-kept : (a : ℕ) → Kept (tad d a)
@@ -222,6 +277,13 @@ take-out d f k =
     (λ e. passes _ f (idle-kept d k))
     (λ e. passes _ f (ifc-kept d k))
     (λ e. passes _ f (aau-kept d k))
+    (λ e. reports-out d f _ k)
+    (λ e. listener-out d f _ k)
+    (λ e. listener-out d f _ k)
+    (λ e. passes _ f (ren-kept d k))
+    (λ e. passes _ f (nre-kept d k))
+    (λ e. passes _ f (llo-kept d k))
+    (λ e. passes _ f (gtl-kept d k))
     (λ e. requested-out d k f 2 2 (to-data d k))
     (λ e. sst-out d k f)
     (λ e. requested-out d k f 8 4 (to-id d k))
@@ -273,6 +335,9 @@ wish-good d w g =
     (λ e. chosen Good (eqb (d .service) 0) _ d
     (λ i. good-of _ (serving-kept d (kept-of d g) 1 (omega arith) (λ i. h))) (λ i. g)))
     (λ h. g)
+
+pub key-good : KeyKeeps
+key-good d g = good-of _ (key-kept d (kept-of d g))
 
 pub last-is-data : LastIsData
 last-is-data d g = record { past = omega (arith, kept-of d g .talks .last) }

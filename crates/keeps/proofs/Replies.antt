@@ -17,7 +17,7 @@ use Rattle.device.specs.declared.Device.{Device}
 use Rattle.device.specs.Sent.{Sent}
 use Rattle.device.proofs.Chosen.{chosen}
 use Rattle.device.proofs.Marked.{reply, other-small, marked-code}
-use Rattle.keeps.proofs.Groups.{Kept, Sized, Made, Placed, Listens, Serves, Loads}
+use Rattle.keeps.proofs.Groups.{Kept, Sized, Made, Placed, Listens, Serves, Remotes, Loads}
 use Rattle.keeps.proofs.Changes.{rested}
 
 -- a sound device and, where f is below 2,048, a frame below 2,048
@@ -34,6 +34,7 @@ Others d =
       placed : Placed d;
       listens : Listens d;
       serves : Serves d;
+      remotes : Remotes d;
       loads : Loads d;
     }
 
@@ -45,6 +46,7 @@ others d k =
       placed = k .placed;
       listens = k .listens;
       serves = k .serves;
+      remotes = k .remotes;
       loads = k .loads;
     }
 
@@ -117,6 +119,7 @@ module _ (d : Device) (o : Others d) (s : Sends d) where
         placed = o .placed;
         listens = o .listens;
         serves = o .serves;
+        remotes = o .remotes;
         loads =
             record {
               loadlength = l .loadlength;
@@ -153,6 +156,7 @@ module _ (d : Device) (o : Others d) (s : Sends d) where
         placed = o .placed;
         listens = o .listens;
         serves = o .serves;
+        remotes = o .remotes;
         loads = o .loads;
         talks =
             record {
@@ -184,6 +188,7 @@ module _ (d : Device) (o : Others d) (s : Sends d) where
               placed = o .placed;
               listens = o .listens;
               serves = o .serves;
+              remotes = o .remotes;
               loads = o .loads;
               talks = rested d 1 (omega arith) (λ i. sends-talks d s);
             };

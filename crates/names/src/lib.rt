@@ -1,5 +1,5 @@
 // Names for people, written to standard output: the mnemonics of the kinds as the message table of 001 has them, and a
-// few words for each refusal, stop reason, talker state and service state.
+// few words for each refusal, stop reason, event and state.
 use frame::KINDS;
 use print::text;
 
@@ -42,6 +42,7 @@ pub fn stop(number: u64) {
         0 => text(b"no hop possible"),
         1 => text(b"budget spent"),
         2 => text(b"byte handed"),
+        3 => text(b"clear or trigger"),
         _ => text(b"?"),
     }
 }
@@ -65,6 +66,27 @@ pub fn service(number: u64) {
         0 => text(b"none"),
         1 => text(b"asking"),
         2 => text(b"polled"),
+        _ => text(b"?"),
+    }
+}
+
+// Remote and local.
+pub fn remote(number: u64) {
+    match number {
+        0 => text(b"local"),
+        1 => text(b"remote"),
+        2 => text(b"local locked"),
+        3 => text(b"remote locked"),
+        _ => text(b"?"),
+    }
+}
+
+// What a hop reports.
+pub fn event(number: u64) {
+    match number {
+        0 => text(b"none"),
+        1 => text(b"clear"),
+        2 => text(b"trigger"),
         _ => text(b"?"),
     }
 }

@@ -1,5 +1,5 @@
 // Prints a C header with names as arrays by number: the mnemonics of the message table's kinds, and words for refusals,
-// stop reasons, talker states and service states.
+// stop reasons, states and events.
 use frame::KINDS;
 use print::decimal;
 use print::text;
@@ -11,6 +11,8 @@ enum Names {
     Stops,
     Talkers,
     Services,
+    Remotes,
+    Events,
 }
 
 fn main() {
@@ -22,12 +24,16 @@ fn main() {
     names_of(Names::Kinds, b"kind_names", KINDS as u64);
     text(b"\n/* Refusals, PIL_ACCEPTED to PIL_BAD_SAVE. */\n");
     names_of(Names::Refusals, b"refusal_texts", 11);
-    text(b"\n/* Why a drain stopped, PIL_STOP_NO_HOP to PIL_STOP_HANDED. */\n");
-    names_of(Names::Stops, b"stop_texts", 3);
+    text(b"\n/* Why a drain stopped, PIL_STOP_NO_HOP to PIL_STOP_EVENT. */\n");
+    names_of(Names::Stops, b"stop_texts", 4);
     text(b"\n/* Talker states, PIL_TALKER_IDLE to PIL_TALKER_ACCESSORY. */\n");
     names_of(Names::Talkers, b"talker_texts", 6);
     text(b"\n/* Service states, PIL_SERVICE_NONE to PIL_SERVICE_POLLED. */\n");
     names_of(Names::Services, b"service_texts", 3);
+    text(b"\n/* Remote and local, PIL_LOCAL to PIL_REMOTE_LOCKED. */\n");
+    names_of(Names::Remotes, b"remote_texts", 4);
+    text(b"\n/* Events, PIL_EVENT_NONE to PIL_EVENT_TRIGGER. */\n");
+    names_of(Names::Events, b"event_texts", 3);
     text(b"\n#endif\n");
 }
 
@@ -63,5 +69,7 @@ fn name(of: Names, number: u64) {
         Names::Stops => names::stop(number),
         Names::Talkers => names::talker(number),
         Names::Services => names::service(number),
+        Names::Remotes => names::remote(number),
+        Names::Events => names::event(number),
     }
 }

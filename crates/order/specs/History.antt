@@ -1,4 +1,4 @@
--- What is read off a history: the frames put and taken, and for each device the bytes handed to it and its turns.
+-- What is read off a history: the frames put and taken, and for each device what was handed to it and its turns.
 use Prim.Native.Nat.{ℕ, zero, suc, _+_}
 use mathlib.Core.Option.{Option, none, some}
 use mathlib.Core.List.{List, [], _∷_, _++_}
@@ -107,7 +107,7 @@ module _ {L : Line} where
   abbrev pub taken : List (Event L) → List Frame
   taken es = each takenBy es
 
-  -- the bytes handed to device i, in order
+  -- what was handed to device i, in order
   abbrev pub handed : List (Event L) → ℕ → List Byte
   handed es i = each (handedBy i) es
 

@@ -9,12 +9,12 @@ use lib.Dec.{ltb}
 
 -- What a line is made of.
 pub record Line : Type 1 where
-  -- a device's record; a frame; a local call with its arguments; a byte handed over, with its end bit
+  -- a device's record; a frame; a local call with its arguments; what is handed over, as a byte with its end bit
   pub State : Type 0
   pub Frame : Type 0
   pub Local : Type 0
   pub Byte : Type 0
-  -- a device that takes a frame: its next state, the one frame that it sends, the byte that it is handed, if any
+  -- a device that takes a frame: its next state, the one frame that it sends, what it is handed, if anything
   pub next : State → Frame → State
   pub send : State → Frame → Frame
   pub hand : State → Frame → Option Byte
@@ -48,7 +48,7 @@ module _ (L : Line) where
     was-taken : Frame → Event
     called : ℕ → Local → Event
 
-  -- Why a drain stopped: 0, no device can hop; 1, the budget is spent; 2, that device was handed that byte.
+  -- Why a drain stopped: 0, no device can hop; 1, the budget is spent; 2 or 3, that device was handed that.
   pub data Stop : Type 0 where
     no-hop : Stop
     spent : Stop
@@ -129,7 +129,7 @@ module _ {L : Line} where
   abbrev pub hopBefore : ℕ → Option Byte → Drained L → Drained L
   hopBefore i h d = record { loop = d .loop; events = hopped i h ∷ d .events; stop = d .stop }
 
-  -- device i has hopped and left l: the drain stops just after a hop that handed a byte, and else goes on
+  -- device i has hopped and left l: the drain stops just after a hop that handed something over, and else goes on
   abbrev pub afterHop : ℕ → (Loop L → Drained L) → Loop L → Option Byte → Drained L
   afterHop i goOn l none = hopBefore i none (goOn l)
   afterHop i goOn l (some x) = hopBefore i (some x) (stopped l (handing i x))

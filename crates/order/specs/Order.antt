@@ -23,7 +23,7 @@ pub record SameAs {L : Line} (l : Loop L) (ref : List (Call L)) (l′ : Loop L) 
   -- they put the same frames and give each device the same turns,
   pub same-puts : puts events ≡ puts es
   pub same-turns : (i : ℕ) → turns events i ≡ turns es i
-  -- the same frames are taken out, and each device is handed the same bytes.
+  -- the same frames are taken out, and each device is handed the same.
   pub same-taken : taken events ≡ taken es
   pub same-handed : (i : ℕ) → handed events i ≡ handed es i
 
@@ -47,7 +47,7 @@ module _ (L : Line) where
       × (hopsMade es ≡ owed (linksOf l) + length (puts es) * devices l)
 
   -- Two histories from one loop that put the same frames, give each device the same turns and leave all links empty
-  -- agree: in the devices, the frames taken out, the bytes handed to each device and the number of hops.
+  -- agree: in the devices, the frames taken out, what is handed to each device and the number of hops.
   abbrev pub Agree : Type 0
   Agree = (l : Loop L) (ss₁ ss₂ : List State) (cs₁ cs₂ : List (Call L)) (es₁ es₂ : List (Event L))
       → run l cs₁ ≡ (idle ss₁, es₁) → run l cs₂ ≡ (idle ss₂, es₂)
@@ -73,13 +73,13 @@ module _ (L : Line) where
   Says spent b l es = (hopsMade es ≡ b) × (accepts (highest l) ≡ true)
   Says (handing j x) b l es = (es₀ : List (Event L)) × (es ≡ es₀ ++ hopped j (some x) ∷ [])
 
-  -- the bytes that a stop says were handed to device i
+  -- what a stop says was handed to device i
   abbrev pub handedAt : ℕ → Stop L → List Byte
   handedAt i no-hop = []
   handedAt i spent = []
   handedAt i (handing j x) = ifSame i j (x ∷ [])
 
-  -- a drain with the budget b on l made no more hops, what it says on stopping is so, and it handed that byte alone
+  -- a drain with the budget b on l made no more hops, what it says on stopping is so, and it handed that alone
   pub record TrueStop (b : ℕ) (l : Loop L) : Type 0 where
     pub within : hopsMade ((draining b l) .events) ≤ b
     pub so : Says ((draining b l) .stop) b ((draining b l) .loop) ((draining b l) .events)

@@ -10,7 +10,7 @@ use device::Device;
 ghost use mathlib.Core.Path.{_≡_};
 ghost use Rattle.device.specs.Device.{endLast};
 ghost use Rattle.calls.specs.Outcome.{Is};
-ghost use Rattle.calls.specs.Calls.{putOf, takeOf, hopOf, loadOf, statusOf, wishOf};
+ghost use Rattle.calls.specs.Calls.{putOf, takeOf, hopOf, loadOf, statusOf, wishOf, keyOf};
 ghost use Rattle.calls.specs.Drain.{drainOf};
 ghost use Rattle.calls.specs.Owed.{owedOf};
 ghost use Rattle.calls.specs.SetUp.{setUpOf};
@@ -79,6 +79,13 @@ pub extern "C" fn pil_wish(area: &mut [u8], device: u64, wish: u64) -> u8
     ensures { λ r. ⌜ Is (wishOf (now (area .entry)) device wish) r (now (area .exit)) ⌝ }
 {
     local_calls::wish(area, device, wish)
+}
+
+#[no_mangle]
+pub extern "C" fn pil_key(area: &mut [u8], device: u64) -> u8
+    ensures { λ r. ⌜ Is (keyOf (now (area .entry)) device) r (now (area .exit)) ⌝ }
+{
+    local_calls::key(area, device)
 }
 
 #[no_mangle]

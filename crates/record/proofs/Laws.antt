@@ -7,7 +7,7 @@ use Prim.Native.Nat.{ℕ, _+_, _*_, _/_, _%_, _≤_, _<_}
 use native.Mathlib.Omega.{arith}
 use lib.ListN.{length, getD, take, drop, length-drop, length-replicate, take-append-drop}
 use lib.Seq.{drop-drop, take-all}
-use borrow.Author.Tests.{eqb-true}
+use borrow.Author.Tests.{eqb-true, le-leb}
 use Rattle.device.specs.Device.{mostID, mostData}
 use Rattle.device.specs.PowerOn.{bytesFrom, powerOn}
 use Rattle.device.specs.declared.Device.{Device}
@@ -16,6 +16,7 @@ use Rattle.record.specs.Record.{headOf, deviceOf, recordOf, spare, zeros
 use Rattle.record.specs.Sound.{soundDevice, soundRecord, allowed}
 use Rattle.record.specs.Fits.{Bytes, Fits, Good}
 use Rattle.record.specs.Laws.{RecordWide, ReadWritten, WriteRead, WriteSound, ReadSound, GoodBytes, PowerOnSound}
+use Rattle.record.specs.Laws.{AnyRemote}
 use Rattle.record.proofs.Both.{left, right}
 use Rattle.record.proofs.Bytes.{small-bytes, zeros-small, bytes-small, bytes-append}
 
@@ -52,23 +53,23 @@ record-again d f =
       sent = d .sent;
       last = whole (d .last) i;
       replied = d .replied;
+      remote = d .remote;
+      enabled = d .enabled;
       choice = d .choice;
       id = sym (bytes-all mostID (d .id) (f .idsize)) i;
       load = sym (bytes-all mostData (d .load) (f .loadsize)) i;
     }
 
--- seven zeros
-zeros-seven : (a b c d e f g : ℕ) → zeros (a ∷ b ∷ c ∷ d ∷ e ∷ f ∷ g ∷ []) ≡ true →
-    (a ≡ 0) × (b ≡ 0) × (c ≡ 0) × (d ≡ 0) × (e ≡ 0) × (f ≡ 0) × (g ≡ 0)
+-- five zeros
+zeros-five : (a b c d e : ℕ) → zeros (a ∷ b ∷ c ∷ d ∷ e ∷ []) ≡ true →
+    (a ≡ 0) × (b ≡ 0) × (c ≡ 0) × (d ≡ 0) × (e ≡ 0)
 unfolding zeros
-zeros-seven a b c d e f g h = (
+zeros-five a b c d e h = (
   eqb-true a 0 (search (left, right)),
   eqb-true b 0 (search (left, right)),
   eqb-true c 0 (search (left, right)),
   eqb-true d 0 (search (left, right)),
   eqb-true e 0 (search (left, right) depth 8),
-  eqb-true f 0 (search (left, right) depth 8),
-  eqb-true g 0 (search (left, right) depth 9),
 )
 
 module _ (b : List ℕ) (h : soundRecord b ≡ true) where
@@ -92,11 +93,10 @@ three b len =
 head-back : (b : List ℕ) → length b ≡ 64 → Bytes b → soundRecord b ≡ true → headOf (deviceOf b) ≡ take 24 (drop 0 b)
 unfolding deviceOf bytesFrom
 head-back b len small h =
-    let z = zeros-seven (getD b 7 0) (getD b 17 0) (getD b 18 0) (getD b 20 0) (getD b 21 0) (getD b 22 0)
-    (getD b 23 0) (spare-zero b h) in
+    let z = zeros-five (getD b 7 0) (getD b 20 0) (getD b 21 0) (getD b 22 0) (getD b 23 0) (spare-zero b h) in
     let lo = low-of (getD b 14 0) (getD b 15 0) (small 14) in
     let hi = high-of (getD b 14 0) (getD b 15 0) (small 14) in
-    let e : headOf (deviceOf b) ≡ bytesFrom 0 24 b = simp (lo, hi, z .0, z .1, z .2, z .3, z .4, z .5, z .6) in
+    let e : headOf (deviceOf b) ≡ bytesFrom 0 24 b = simp (lo, hi, z .0, z .1, z .2, z .3, z .4) in
     e ∙ sym (take-bytes 24 0 b (omega arith))
 
 -- a stretch of the record, read and written
@@ -136,6 +136,8 @@ read-fits b h =
       sent = h 13;
       last = omega (arith, h 14, h 15);
       replied = h 16;
+      remote = h 17;
+      enabled = h 18;
       choice = h 19;
       id = bytes-small b 24 mostID h;
       load = bytes-small b 32 mostData h;
@@ -150,6 +152,10 @@ read-good b h s = record { fits = read-fits b h; sound = device-sound b s }
 pub blank-good : Good (deviceOf [])
 unfolding deviceOf soundDevice bytesFrom zeros
 blank-good = record { fits = read-fits [] (λ i. omega arith); sound = refl }
+
+pub any-remote : AnyRemote
+unfolding soundDevice
+any-remote d s f h k = rw (le-leb _ _ h, le-leb _ _ k)
 
 pub good-bytes : GoodBytes
 unfolding recordOf
@@ -181,6 +187,8 @@ power-good item h a =
             sent = omega arith;
             last = omega arith;
             replied = omega arith;
+            remote = omega arith;
+            enabled = omega arith;
             choice = omega arith;
             id = bytes-small item 4 mostID h;
             load = zeros-small mostData;

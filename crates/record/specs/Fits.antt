@@ -30,6 +30,8 @@ pub record Fits (d : Device) : Type 0 where
   pub sent : d .sent < 256
   pub last : d .last < 65536
   pub replied : d .replied < 256
+  pub remote : d .remote < 256
+  pub enabled : d .enabled < 256
   pub choice : d .choice < 256
   pub id : Bytes (d .id)
   pub load : Bytes (d .load)

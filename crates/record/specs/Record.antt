@@ -35,6 +35,8 @@ deviceOf b =
       sent = getD b 13 0;
       last = word 14 b;
       replied = getD b 16 0;
+      remote = getD b 17 0;
+      enabled = getD b 18 0;
       choice = getD b 19 0;
       id = bytesFrom 24 mostID b;
       load = bytesFrom 32 mostData b;
@@ -45,16 +47,16 @@ abbrev pub headOf : Device → List ℕ
 headOf d =
     d .abilities ∷ d .fixed ∷ d .address ∷ d .configured ∷ d .listener ∷ d .talker ∷ d .service ∷ 0 ∷
     d .noted ∷ d .status ∷ d .accessory ∷ d .idlength ∷ d .loadlength ∷ d .sent ∷ d .last % 256 ∷ d .last / 256 ∷
-    d .replied ∷ 0 ∷ 0 ∷ d .choice ∷ 0 ∷ 0 ∷ 0 ∷ 0 ∷
+    d .replied ∷ d .remote ∷ d .enabled ∷ d .choice ∷ 0 ∷ 0 ∷ 0 ∷ 0 ∷
     []
 
 -- all its bytes: ID and data stand behind
 unfoldable pub recordOf : Device → List ℕ
 recordOf d = headOf d ++ (bytesFrom 0 mostID (d .id) ++ bytesFrom 0 mostData (d .load))
 
--- bytes 7, 17, 18 and 20-23, which hold no value
+-- bytes 7 and 20-23, which hold no value
 abbrev pub spare : List ℕ → List ℕ
-spare b = getD b 7 0 ∷ getD b 17 0 ∷ getD b 18 0 ∷ getD b 20 0 ∷ getD b 21 0 ∷ getD b 22 0 ∷ getD b 23 0 ∷ []
+spare b = getD b 7 0 ∷ getD b 20 0 ∷ getD b 21 0 ∷ getD b 22 0 ∷ getD b 23 0 ∷ []
 
 -- each byte is zero
 unfoldable pub zeros : List ℕ → Bool

@@ -1,5 +1,5 @@
--- When a record is sound: the clauses of 01's "Sound means" on a record, in its order, with the choice of 02, h, and
--- its zero bytes; a set-up item is judged by the same clauses. That frames are below 2,048 is said of links, in area.
+-- When a record is sound: the clauses of 01's "Sound means" on a record, in its order, with the values of 02, d and h,
+-- and its zero bytes; a set-up item is judged by the same clauses. That frames are below 2,048 area says of links.
 use Prim.Native.Nat.{ℕ}
 use mathlib.Core.List.{List}
 use mathlib.Core.Bool.{Bool, not, _&&_, _||_}
@@ -7,7 +7,7 @@ use lib.Dec.{eqb, ltb, leb}
 use lib.ListN.{drop}
 use Rattle.device.specs.Device.{listen, sendData, status, deviceID, accessoryID, autoAddress, unaddress, serviceRequest}
 use Rattle.device.specs.Device.{addressed, sendingData, sendingStatus, sendingDeviceID, sendingAccessoryID, noService}
-use Rattle.device.specs.Device.{polled, isChoice, noAddress, mostID, mostData, has, talks, sending}
+use Rattle.device.specs.Device.{polled, RWLS, isChoice, noAddress, mostID, mostData, has, talks, sending}
 use Rattle.device.specs.PowerOn.{powerOn}
 use Rattle.device.specs.declared.Device.{Device}
 use Rattle.record.specs.Record.{deviceOf, spare, zeros}
@@ -17,7 +17,7 @@ abbrev pub only : Bool → Bool → Bool
 only a b = not a || b
 
 -- those ranges: addresses 0-31, configured and listener 0/1, talker 0-5, service 0-2, NRD seen 0/1, lengths 0-8 and
--- 0-32; and the choice 0/1
+-- 0-32; and remote and local 0-3, remote enable 0/1, the choice 0/1
 abbrev pub inRange : Device → Bool
 inRange d =
     leb (d .fixed) noAddress &&
@@ -29,7 +29,9 @@ inRange d =
     (leb (d .noted) 1 &&
     (leb (d .idlength) mostID &&
     (leb (d .loadlength) mostData &&
-    isChoice (d .choice)))))))))
+    (leb (d .remote) RWLS &&
+    (leb (d .enabled) 1 &&
+    isChoice (d .choice)))))))))))
 
 -- ID and data are zero past their length
 abbrev pub zeroPast : Device → Bool

@@ -41,6 +41,10 @@ pub const LAST: usize = 14;
 
 pub const REPLIED: usize = 16;
 
+pub const REMOTE: usize = 17;
+
+pub const ENABLED: usize = 18;
+
 pub const CHOICE: usize = 19;
 
 pub const ID: usize = 24;

@@ -6,7 +6,8 @@ use mathlib.Core.List.{List, _++_}
 use lib.ListN.{length, take, drop, set}
 use borrow.Author.Tests.{ne-eqb}
 use Rattle.device.specs.PowerOn.{bytesFrom}
-use Rattle.device.specs.Change.{loadlength, sent, choice, status, service, loading, statusing, serving}
+use Rattle.device.specs.Change.{loadlength, sent, choice, status, service, remote, loading, statusing, serving}
+use Rattle.device.specs.Change.{remoting}
 use Rattle.device.specs.declared.Device.{Device}
 use Rattle.record.specs.Record.{deviceOf, recordOf}
 use Rattle.record.specs.Written.{IsRecord}
@@ -28,6 +29,10 @@ module _ (d : Device) where
   unfolding recordOf
   service-put x = refl
 
+  remote-put : (x : ℕ) → set (recordOf d) remote x ≡ recordOf (remoting d x)
+  unfolding recordOf
+  remote-put x = refl
+
 -- a record b of bytes
 module _ (b : List ℕ) (i : IsRecord b) where
   pub data-written : (bs : List ℕ) (e : ℕ) →
@@ -40,6 +45,9 @@ module _ (b : List ℕ) (i : IsRecord b) where
 
   pub service-written : (x : ℕ) → set b service x ≡ recordOf (serving (deviceOf b) x)
   service-written x = rw (i .whole) at (service-put (deviceOf b) x)
+
+  pub remote-written : (x : ℕ) → set b remote x ≡ recordOf (remoting (deviceOf b) x)
+  remote-written x = rw (i .whole) at (remote-put (deviceOf b) x)
 
 -- a refused call leaves the record b as it was, and an accepted one leaves that of its device
 module _ (b : List ℕ) where

@@ -1,4 +1,4 @@
--- The local calls of a device (01, The calls; 02, h), refused with 2, 7, 8, 9 in that order.
+-- The local calls of a device (01, The calls; 02, d and h), refused with 2, 7, 8, 9 in that order.
 use Prim.Native.Nat.{ℕ}
 use mathlib.Core.List.{List}
 use lib.Dec.{eqb, ltb}
@@ -7,6 +7,7 @@ use Rattle.device.specs.Choose.{choose}
 use Rattle.device.specs.Device.{sendData, status, serviceRequest, sendingData, noService, asking, isChoice, mostData}
 use Rattle.device.specs.Device.{has}
 use Rattle.device.specs.Change.{serving, loading, statusing}
+use Rattle.device.specs.Remote.{key}
 use Rattle.device.specs.declared.Device.{Device}
 
 -- what a local call leaves: refusal 0 and the next device, or a refusal and the device as it was
@@ -55,3 +56,7 @@ wishing d w = choose (eqb w 0) (serving d noService) (choose (eqb (d .service) n
 
 unfoldable pub wishes : Device → ℕ → Called
 wishes d w = choose (has d serviceRequest) (accepted (wishing d w)) (refused noAbility d)
+
+-- the panel key is pressed: never refused by the device (02, d)
+abbrev pub presses : Device → Called
+presses d = accepted (key d)

@@ -1,9 +1,10 @@
-// The local calls of a device (01, The calls; 02, h), made in its record, refused with 7, 8, 9 in that order (2 for a
-// load's choice comes before the device is looked for). Only the bytes that a call speaks of are written.
+// The local calls of a device (01, The calls; 02, d and h), made in its record, refused with 7, 8, 9 in that order; 2,
+// for a load's choice, comes before the device is looked for. Only the bytes that a call speaks of are written.
 use device::Device;
 use record::CHOICE;
 use record::LOAD;
 use record::LOAD_LENGTH;
+use record::REMOTE;
 use record::SENT;
 use record::SERVICE;
 use record::SIZE;
@@ -19,7 +20,7 @@ ghost use Rattle.device.specs.PowerOn.{bytesFrom};
 ghost use Rattle.device.specs.Change.{loading};
 ghost use Rattle.record.specs.Record.{deviceOf, recordOf};
 ghost use Rattle.record.specs.Written.{IsRecord};
-ghost use Rattle.record_local.specs.Local.{loads, setsStatus, wishing, wishes};
+ghost use Rattle.record_local.specs.Local.{loads, setsStatus, wishing, wishes, presses};
 ghost use Rattle.record_local.specs.InPlace.{InPlace};
 
 const NO_ABILITY: u8 = 7;
@@ -103,4 +104,16 @@ pub fn wish(rec: &mut [u8], wish: u64) -> u8
         return 0;
     }
     NO_ABILITY
+}
+
+// Press the panel key.
+pub fn key(rec: &mut [u8]) -> u8
+    requires { ⌜ IsRecord (now rec) ⌝ }
+    ensures { λ r. ⌜ InPlace (now (rec .entry)) (presses (deviceOf (now (rec .entry)))) r (now (rec .exit)) ⌝ }
+{
+    if rec[REMOTE] == Device::REMS {
+        rec[REMOTE] = Device::LOCS;
+        return 0;
+    }
+    0
 }

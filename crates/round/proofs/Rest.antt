@@ -82,6 +82,8 @@ take-accepted l o = take-done l (size l) refl (o .frame) (rw (o .there))
 answer-accepted : (f : ℕ) (h : Handed) → hopAnswer f h .refusal ≡ 0
 answer-accepted f handed.Nothing = refl
 answer-accepted f (handed.Byte b e) = refl
+answer-accepted f handed.Clear = refl
+answer-accepted f handed.Trigger = refl
 
 -- ---- on an area
 

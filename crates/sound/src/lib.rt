@@ -5,11 +5,13 @@ use record::ABILITIES;
 use record::ADDRESS;
 use record::CHOICE;
 use record::CONFIGURED;
+use record::ENABLED;
 use record::FIXED;
 use record::ID_LENGTH;
 use record::LISTENER;
 use record::LOAD_LENGTH;
 use record::NOTED;
+use record::REMOTE;
 use record::SERVICE;
 use record::TALKER;
 use record::read::has;
@@ -38,7 +40,9 @@ fn in_range(rec: &[u8]) -> bool
                             & ((rec[NOTED] <= 1)
                                 & ((rec[ID_LENGTH] <= Device::MOST_ID as u8)
                                     & ((rec[LOAD_LENGTH] <= Device::MOST_DATA as u8)
-                                        & (rec[CHOICE] <= Device::END_LAST)))))))))
+                                        & ((rec[REMOTE] <= Device::RWLS)
+                                            & ((rec[ENABLED] <= 1)
+                                                & (rec[CHOICE] <= Device::END_LAST)))))))))))
 }
 
 // 128 only with 4.

@@ -2,8 +2,8 @@
 use Prim.Native.Nat.{ℕ}
 use mathlib.Core.Path.{_≡_}
 use mathlib.Core.List.{List, [], _∷_}
-use Rattle.device.specs.Change.{Edit, _becomes_, changed}
-use Rattle.device.specs.Change.{address, configured, listener, talker, service, noted, sent, last, replied}
+use Rattle.device.specs.Change.{Edit, _becomes_, changed, address, configured, listener, talker, service, noted, sent}
+use Rattle.device.specs.Change.{last, replied, remote, enabled}
 use Rattle.device.specs.Sent.{Sent}
 use Rattle.device.specs.declared.Device.{Device}
 use Rattle.record.specs.Record.{deviceOf, recordOf}
@@ -23,6 +23,8 @@ values s =
     sent becomes s .sent ∷
     last becomes s .last ∷
     replied becomes s .replied ∷
+    remote becomes s .remote ∷
+    enabled becomes s .enabled ∷
     []
 
 -- d with the state s

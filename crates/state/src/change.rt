@@ -1,7 +1,7 @@
 // A state with some of its values changed: the code of device's specs/Change.antt.
 use crate::State;
 ghost use mathlib.Core.Path.{_≡_};
-ghost use Rattle.device.specs.Change.{listening, talking, placed, serving, noting, counting};
+ghost use Rattle.device.specs.Change.{listening, talking, placed, serving, noting, counting, remoting, enabling};
 ghost use Rattle.device.specs.declared.Device.{Device};
 ghost use Rattle.state.specs.State.{with};
 
@@ -59,6 +59,20 @@ impl State {
         self.last = last;
         self.sent = sent;
         self.replied = replied;
+        self
+    }
+
+    pub fn remoting(mut self, remote: u8) -> Self
+        ensures { λ r. ⌜ ((d : Device) → with d r ≡ remoting (with d self) remote) ⌝ }
+    {
+        self.remote = remote;
+        self
+    }
+
+    pub fn enabling(mut self, enabled: u8) -> Self
+        ensures { λ r. ⌜ ((d : Device) → with d r ≡ enabling (with d self) enabled) ⌝ }
+    {
+        self.enabled = enabled;
         self
     }
 }

@@ -4,9 +4,11 @@ mod change;
 use device::Handed;
 use record::ADDRESS;
 use record::CONFIGURED;
+use record::ENABLED;
 use record::LAST;
 use record::LISTENER;
 use record::NOTED;
+use record::REMOTE;
 use record::REPLIED;
 use record::SENT;
 use record::SERVICE;
@@ -32,6 +34,8 @@ pub struct State {
     pub sent: u8,
     pub replied: u8,
     pub service: u8,
+    pub enabled: u8,
+    pub remote: u8,
 }
 
 // The state after a frame, the frame that is sent and what is handed over.
@@ -69,6 +73,8 @@ impl State {
             sent: rec[SENT],
             last,
             replied: rec[REPLIED],
+            remote: rec[REMOTE],
+            enabled: rec[ENABLED],
         }
     }
 
@@ -87,5 +93,7 @@ impl State {
         rec[LAST] = (self.last % 256) as u8;
         rec[LAST + 1] = (self.last / 256) as u8;
         rec[REPLIED] = self.replied;
+        rec[REMOTE] = self.remote;
+        rec[ENABLED] = self.enabled;
     }
 }

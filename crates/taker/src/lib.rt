@@ -11,8 +11,8 @@ ghost use lib.ListN.{length};
 ghost use Rattle.frame.specs.Classes.{IsData};
 ghost use Rattle.device.specs.Take.{takes};
 ghost use Rattle.record.specs.Record.{recordSize, deviceOf};
-ghost use Rattle.record.specs.Written.{IsRecord};
-ghost use Rattle.state.specs.State.{inRecord, sentFrom};
+ghost use Rattle.record.specs.Written.{IsRecord, written};
+ghost use Rattle.state.specs.State.{values, inRecord};
 ghost use Rattle.taker.specs.InPlace.{InPlace};
 
 // The device that takes a frame, by value: the state that the frame can alter.
@@ -25,37 +25,46 @@ const READY: u16 = 0x500;
 
 const IDENTIFY: u16 = 0x600;
 
+// What was passed on, once its state is in the record.
+fn put_back(passed: Passed, rec: &mut [u8]) -> Passed
+    requires { ⌜ length (now rec) ≡ recordSize ⌝ }
+    ensures { λ r. ⌜ (r ≡ passed) × (now (rec .exit) ≡ written (values (passed .state)) (now (rec .entry))) ⌝ }
+{
+    let state = passed.state;
+    state.write(rec);
+    passed
+}
+
 impl Taker {
-    // By the frame's class (001, control bits): its record lies beside it, and is not copied.
-    pub fn take(self, rec: &[u8], frame: u16) -> Passed
-        requires { ⌜ (length (now rec) ≡ recordSize) × IsData (self .0 .last) ⌝ }
-        ensures { λ r. ⌜ sentFrom (now (rec .entry)) r ≡ takes (inRecord (now (rec .entry)) (self .0)) frame ⌝ }
+    // By the frame's class (001, control bits). Each class puts its state back by itself: the compiler then sees which
+    // values it cannot alter, and neither reads nor writes them.
+    pub fn take(self, rec: &mut [u8], frame: u16) -> Passed
+        requires { ⌜ IsRecord (now rec) × IsData (self .0 .last) ⌝ }
+        ensures { λ r. ⌜ InPlace (now (rec .entry)) (takes (inRecord (now (rec .entry)) (self .0)) frame) r
+            (now (rec .exit)) ⌝ }
     {
         let state = self.0;
         if frame < COMMANDS {
-            return data_or_end(state, rec, frame);
+            return put_back(data_or_end(state, rec, frame), rec);
         }
         if frame < READY {
-            return sends(command(state, rec, frame), frame);
+            return put_back(command(state, rec, frame), rec);
         }
         if frame < IDENTIFY {
-            return ready(state, rec, frame);
+            return put_back(ready(state, rec, frame), rec);
         }
         if frame < frame::FRAMES as u16 {
-            return identify(state, frame);
+            return put_back(identify(state, frame), rec);
         }
-        sends(state, frame)
+        put_back(sends(state, frame), rec)
     }
 }
 
-// The device of a record, whose last frame sent is a data byte as in every sound one, takes a frame; only the bytes of
-// its state are written back.
+// The device of a record, whose last frame sent is a data byte as in every sound one, takes a frame; only bytes of its
+// state are written back.
 pub fn take_in(rec: &mut [u8], frame: u16) -> Passed
     requires { ⌜ IsRecord (now rec) × IsData (deviceOf (now rec) .last) ⌝ }
     ensures { λ r. ⌜ InPlace (now (rec .entry)) (takes (deviceOf (now (rec .entry))) frame) r (now (rec .exit)) ⌝ }
 {
-    let passed = Taker(State::read(rec)).take(rec, frame);
-    let state = passed.state;
-    state.write(rec);
-    passed
+    Taker(State::read(rec)).take(rec, frame)
 }

@@ -5,7 +5,9 @@ use Rattle.frame.specs.Messages.{messages, kindAt, lookup, within, firstIn, fir
 use Rattle.frame.specs.Decoding.{hasC1, offsetIn, c1In}
 use Rattle.device.specs.Choose.{choose}
 use Rattle.device.specs.PowerOn.{powerOn, bytesFrom}
+use Rattle.device.specs.Remote.{toRemote}
 use Rattle.device.specs.Commands.{lad, tad, aau}
+use Rattle.device.specs.Clear.{toListener}
 use Rattle.device.specs.Reply.{marked}
 use Rattle.device.specs.Ready.{requested, polls, sst, nrd, aad}
 use Rattle.device.specs.Data.{returned, heard, dataOrEnd}
@@ -28,22 +30,22 @@ use Rattle.demands.specs.Demands.{AllEmpty}
 use Rattle.teeth.specs.Example.{fresh, mixed, Example}
 
 empty : AllEmpty (areaLeft fresh mixed)
-unfolding messages kindAt lookup within firstIn firstOf hasC1 offsetIn c1In choose powerOn bytesFrom lad tad aau
-    marked requested polls sst nrd aad returned heard dataOrEnd takes loads deviceOf recordOf zeros soundDevice
-    soundRecord allowed parts join all framesOf linkOf soundSlot soundLink loopOf areaOf shapedWith sound judgeWith
-    callWith putIn takeIn hopIn localIn loadIn itemsFit setUpWith canHop highest drainFrom headOf recorded saved stands
-    isOf headed formed contents upgrade opened soundSave saveWith openWith
+unfolding messages kindAt lookup within firstIn firstOf hasC1 offsetIn c1In choose powerOn bytesFrom toRemote lad tad
+    aau toListener marked requested polls sst nrd aad returned heard dataOrEnd takes loads deviceOf recordOf zeros
+    soundDevice soundRecord allowed parts join all framesOf linkOf soundSlot soundLink loopOf areaOf shapedWith sound
+    judgeWith callWith putIn takeIn hopIn localIn loadIn itemsFit setUpWith canHop highest drainFrom headOf recorded
+    saved stands isOf headed formed contents upgrade opened soundSave saveWith openWith
 empty zero = refl
 empty (suc zero) = refl
 empty (suc (suc zero)) = refl
 empty (suc (suc (suc j))) = refl
 
 pub example : Example
-unfolding messages kindAt lookup within firstIn firstOf hasC1 offsetIn c1In choose powerOn bytesFrom lad tad aau
-    marked requested polls sst nrd aad returned heard dataOrEnd takes loads deviceOf recordOf zeros soundDevice
-    soundRecord allowed parts join all framesOf linkOf soundSlot soundLink loopOf areaOf shapedWith sound judgeWith
-    callWith putIn takeIn hopIn localIn loadIn itemsFit setUpWith canHop highest drainFrom headOf recorded saved stands
-    isOf headed formed contents savedBefore upgrade opened soundSave saveWith openWith
+unfolding messages kindAt lookup within firstIn firstOf hasC1 offsetIn c1In choose powerOn bytesFrom toRemote lad tad
+    aau toListener marked requested polls sst nrd aad returned heard dataOrEnd takes loads deviceOf recordOf zeros
+    soundDevice soundRecord allowed parts join all framesOf linkOf soundSlot soundLink loopOf areaOf shapedWith sound
+    judgeWith callWith putIn takeIn hopIn localIn loadIn itemsFit setUpWith canHop highest drainFrom headOf recorded
+    saved stands isOf headed formed contents savedBefore upgrade opened soundSave saveWith openWith
 example =
     record {
       set-up = refl;

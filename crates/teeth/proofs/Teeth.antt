@@ -32,7 +32,7 @@ use Rattle.saved.specs.Calls.{openWith, openOf}
 use Rattle.saved.proofs.Laws.{open-saved, saved-bytes}
 use Rattle.demands.specs.Calls.{Byte, numbers, Action, put, hop, drain, save, Call, onArea, opens, Answer, hopped}
 use Rattle.demands.specs.Conditions.{due}
-use Rattle.demands.specs.Histories.{Got, handedBy, hopsBy}
+use Rattle.demands.specs.Histories.{Got, got, reported, handedBy, hopsBy}
 use Rattle.demands.specs.Drains.{highestOf, stopsBefore, onceHopped, byHops}
 use Rattle.demands.specs.Demands.{Judged, CanHop, ruled, hopLeaves, Obeys}
 use Rattle.demands.proofs.First.{demand-1}
@@ -147,6 +147,8 @@ choice-first = record { two = refl; three = refl; given = refl }
 answered : (f : ℕ) (h : Handed) → frameIn (hopped (hopAnswer f h)) ≡ f
 answered f handed.Nothing = refl
 answered f (handed.Byte b e) = refl
+answered f handed.Clear = refl
+answered f handed.Trigger = refl
 
 sent-on : ruled 0 0x580 one .frame ≡ 0x581
 unfolding messages kindAt lookup within firstIn firstOf hasC1 offsetIn c1In choose powerOn bytesFrom aad takes
@@ -217,7 +219,8 @@ module _ (model : Call → List ℕ → After Answer) (o : Obeys model) where
       go : (gs : List Got) → hopsBy (drain 1)
           (onceHopped 0 1 (byHops model 0 1) gs (model (onArea (hop 0)) one .area) .answer) ≡ 1
       go [] = spent (drain 1) 1 (model (onArea (hop 0)) one .area)
-      go (g ∷ gs) = refl
+      go (got b e ∷ gs) = refl
+      go (reported k ∷ gs) = refl
 
   counts-none : hopsBy (drain 1) (byHops model 1 0 still .answer) ≡ 0
   unfolding turn

@@ -1,6 +1,7 @@
 -- A worked example of demand 3, computed in proofs/Example.antt: two devices, two frames under way at once, a local
--- call between them, the loop put away and opened, a drain that hands a byte, and a call that is refused; and the same
--- right round. Beside it the hops owed, and a history that begins at an opening with frames in the links.
+-- call between them, the loop put away and opened, a drain that hands a byte, one that reports a trigger, and a call
+-- that is refused; and the same right round. Beside it the hops owed, and a history that begins at an opening with
+-- frames in the links.
 use Prim.Native.Nat.{ℕ, _+_, _-_, _*_}
 use mathlib.Core.Path.{_≡_}
 use mathlib.Core.List.{List, [], _∷_, _++_, map}
@@ -12,10 +13,10 @@ use Rattle.area.specs.Parts.{part}
 use Rattle.saved.specs.Saved.{saved, savedSize}
 use Rattle.saved.specs.Older.{savedBefore}
 use Rattle.saved.specs.Calls.{openOf}
-use Rattle.demands.specs.Calls.{Byte, Action, put, hop, take, load, drain, owes, onArea, setUp, owing, pil}
+use Rattle.demands.specs.Calls.{Byte, load, Action, put, hop, take, local, drain, owes, onArea, setUp, owing, pil}
 use Rattle.demands.specs.Conditions.{due}
-use Rattle.demands.specs.Histories.{Step, call, away, got, areaLeft, framesTaken, bytesHanded, hopsMade, stepsRefused}
-use Rattle.demands.specs.Histories.{inTurn}
+use Rattle.demands.specs.Histories.{Step, call, away, got, reported, areaLeft, framesTaken, allHanded, hopsMade}
+use Rattle.demands.specs.Histories.{stepsRefused, inTurn}
 use Rattle.demands.specs.Demands.{AllEmpty, hopsOwed}
 
 abbrev pub byte : (n : ℕ) → T (ltb n 256) → Byte
@@ -46,23 +47,24 @@ abbrev pub overnight : Step
 overnight = away (replicate (savedSize 2) zero) (replicate (areaSize 2) (byte 0xff tt))
 
 -- the second frame past device 0 before the first is past device 1, and device 0 loaded between its two hops; then a
--- data byte by a drain, and a take too many
+-- data byte by a drain, GET by another, and a take too many
 abbrev pub mixed : List Step
 mixed =
     begun ++
     (overnight ∷ calls (
-    load 0 (byte 0x42 tt ∷ []) 1 ∷ hop 0 ∷ hop 1 ∷ hop 1 ∷ take ∷ take ∷
-    put 0x041 ∷ drain 9 ∷ take ∷ take ∷ []))
+    local 0 (load (byte 0x42 tt ∷ []) 1) ∷ hop 0 ∷ hop 1 ∷ hop 1 ∷ take ∷ take ∷
+    put 0x041 ∷ drain 9 ∷ put 0x408 ∷ drain 9 ∷ take ∷ take ∷ take ∷ []))
 
 abbrev pub round : List Step
 round = calls (
     put 0x580 ∷ hop 0 ∷ hop 1 ∷ take ∷
-    put 0x421 ∷ load 0 (byte 0x42 tt ∷ []) 1 ∷ hop 0 ∷ hop 1 ∷ take ∷
-    put 0x041 ∷ hop 0 ∷ hop 1 ∷ take ∷ [])
+    put 0x421 ∷ local 0 (load (byte 0x42 tt ∷ []) 1) ∷ hop 0 ∷ hop 1 ∷ take ∷
+    put 0x041 ∷ hop 0 ∷ hop 1 ∷ take ∷
+    put 0x408 ∷ hop 0 ∷ hop 1 ∷ take ∷ [])
 
 -- device 0 loaded with that byte, by a choice
 abbrev pub loaded : ℕ → List ℕ
-loaded e = areaLeft fresh (calls (load 0 (byte 0x42 tt ∷ []) e ∷ []))
+loaded e = areaLeft fresh (calls (local 0 (load (byte 0x42 tt ∷ []) e) ∷ []))
 
 -- the loop as begun, opened the next day for a history of its own
 abbrev pub opened : List ℕ
@@ -91,12 +93,12 @@ pub record Example : Type 0 where
   pub mixed-owes : hopsOwed (areaLeft fresh mixed) ≡ 0
   -- what is seen of each history
   pub mixed-refused : stepsRefused fresh mixed ≡ 1
-  pub mixed-taken : framesTaken fresh mixed ≡ 0x582 ∷ 0x421 ∷ 0x041 ∷ []
-  pub mixed-handed : bytesHanded fresh mixed 1 ≡ got 0x41 0 ∷ []
-  pub mixed-hops : hopsMade fresh mixed ≡ 6
+  pub mixed-taken : framesTaken fresh mixed ≡ 0x582 ∷ 0x421 ∷ 0x041 ∷ 0x408 ∷ []
+  pub mixed-handed : allHanded fresh mixed 1 ≡ got 0x41 0 ∷ reported 2 ∷ []
+  pub mixed-hops : hopsMade fresh mixed ≡ 8
   pub round-refused : stepsRefused fresh round ≡ 0
-  pub round-taken : framesTaken fresh round ≡ 0x582 ∷ 0x421 ∷ 0x041 ∷ []
-  pub round-handed : bytesHanded fresh round 1 ≡ got 0x41 0 ∷ []
+  pub round-taken : framesTaken fresh round ≡ 0x582 ∷ 0x421 ∷ 0x041 ∷ 0x408 ∷ []
+  pub round-handed : allHanded fresh round 1 ≡ got 0x41 0 ∷ reported 2 ∷ []
   -- the second is the first in turn, and leaves the same bytes
   pub in-turn : inTurn fresh mixed ≡ round
   pub same-area : same (areaLeft fresh mixed) (areaLeft fresh round) ≡ true

@@ -11,8 +11,8 @@ use Rattle.device.specs.PowerOn.{powerOn}
 use Rattle.device.specs.Take.{takes}
 use Rattle.area.specs.Loop.{Loop, countIn, loopOf, areaOf, device, link}
 use Rattle.calls.specs.Outcome.{After}
-use Rattle.demands.specs.Calls.{Byte, Action, put, hop, load, drain, save, Call, onArea, opens, decode, Answer, plain}
-use Rattle.demands.specs.Calls.{hopped, taken, drained, owing, saving, decoded, encoded, pil, refusalIn}
+use Rattle.demands.specs.Calls.{Byte, load, Action, put, hop, local, drain, save, Call, onArea, opens, decode, Answer}
+use Rattle.demands.specs.Calls.{plain, hopped, taken, drained, owing, saving, decoded, encoded, pil, refusalIn}
 use Rattle.demands.specs.Conditions.{Shape, Unsound, NoDevice, Empty, Full, BadSave}
 use Rattle.demands.specs.Histories.{hopsBy}
 use Rattle.demands.specs.Demands.{Refuses, CanHop, ruled, Obeys}
@@ -49,9 +49,9 @@ pub record TenFirst : Type 0 where
 
 -- a load with a choice that is none, for a device that is not there: 2 and 3 both hold, and 2 is given (02, h)
 pub record ChoiceFirst : Type 0 where
-  pub two : Unsound (onArea (load 1 [] 2)) (areaOf stuck) ≡ true
-  pub three : NoDevice (load 1 [] 2) (areaOf stuck) ≡ true
-  pub given : refusalIn (pil (onArea (load 1 [] 2)) (areaOf stuck) .answer) ≡ 2
+  pub two : Unsound (onArea (local 1 (load [] 2))) (areaOf stuck) ≡ true
+  pub three : NoDevice (local 1 (load [] 2)) (areaOf stuck) ≡ true
+  pub given : refusalIn (pil (onArea (local 1 (load [] 2))) (areaOf stuck) .answer) ≡ 2
 
 -- ---- Demand 2
 

@@ -1,22 +1,24 @@
 -- `commands::command` meets its contract: each command's arm is its rule, and no other command has one.
 use mathlib.Core.Path.{refl}
 use borrow.Author.Needs.{needs}
-use Rattle.frame.specs.declared.Kind.the-variants.{Lad, Unl, Tad, Unt, Ifc, Aau}
+use Rattle.frame.specs.declared.Kind.the-variants.{Gtl, Sdc, Get, Llo, Dcl, Lad, Unl, Tad, Unt, Ifc, Ren, Nre, Aau}
 use Rattle.frame.specs.Messages.{messages, firstIn, firstOf, codesIn, codesOf}
 use Rattle.frame.specs.Decoding.{hasC1}
 use Rattle.device.specs.Choose.{choose}
 use Rattle.device.proofs.Arms.{arms}
 use Rattle.device.proofs.Dispatch.{listed, other, coded-as}
+use Rattle.record.specs.Record.{deviceOf}
 use Rattle.commands.proofs.command.Statement.{statement}
 use Rattle.commands.proofs.command.Tie as tie
 
-returns-7 : tie.Need-returns-7
+returns-14 : tie.Need-returns-14
 unfolding choose messages firstIn firstOf codesIn codesOf
-returns-7 c =
-    let k = c .before in
+returns-14 c =
+    let m = c .before in
+    let k = m .before in
     let s = k .before .before in
     other 0x400 0x500 (k .kind-of .result) _ (s .args .frame) (k .kind-of .ensures) (s .pre .1 .first)
-    (s .pre .1 .past) (c .match .keys7) tt refl
+    (s .pre .1 .past) (m .match .keys14) tt (c .sends11 .ensures (deviceOf (s .args .rec .now)))
 
 pub command-spec : {M : Type 1} → statement M
 unfolding choose messages firstIn firstOf codesIn codesOf hasC1
@@ -27,30 +29,79 @@ command-spec =
     (λ c. search needs)
     (λ c κs. coded-as Lad _ (c .before .before .kind-of .ensures) (c .enum-told .given .1) refl refl)
     (λ c κs. search needs)
+    (λ c κs. search needs)
     (λ c. search needs)
+    (λ c κs. search needs)
     (λ c κs. search needs)
     (λ c. search needs)
     (λ c κs. coded-as Tad _ (c .before .before .kind-of .ensures) (c .enum-told3 .given .1) refl refl)
     (λ c κs. search needs)
+    (λ c κs. search needs)
     (λ c. search needs)
+    (λ c κs. search needs)
+    (λ c κs. search needs)
+    (λ c. search needs)
+    (λ c κs. search needs)
+    (λ c κs. search needs)
+    (λ c. search needs)
+    (λ c κs. search needs)
     (λ c κs. search needs)
     (λ c. search needs)
     (λ c κs. search needs)
     (λ c. search needs)
     (λ c κs. search needs)
-    (λ c. let o = c .before in let t = o .before in
+    (λ c. search needs)
+    (λ c κs. search needs)
+    (λ c. search needs)
+    (λ c κs. search needs)
+    (λ c κs. search needs)
+    (λ c. search needs)
+    (λ c κs. search needs)
+    (λ c κs. search needs)
+    (λ c. search needs)
+    (λ c κs. search needs)
+    (λ c κs. search needs)
+    (λ c. search needs)
+    (λ c κs. search needs)
+    (λ c κs. search needs)
+    (λ c κs. search needs)
+    (λ c. let l = c .before in let o = l .before in let t = o .before in
     listed Lad _ _ (t .before .before .kind-of .ensures) (t .enum-told .given .1)
-    (rw (← o .offset-of .ensures) (search (arms, c .lad .ensures))))
-    (λ c. let t = c .before in
+    (rw (← o .offset-of .ensures) (search (arms, c .sends .ensures, l .lad .ensures))))
+    (λ c. let t = c .before .before in
     listed Unl _ _ (t .before .before .kind-of .ensures) (t .enum-told2 .given .1)
-    (search (arms, c .listening .ensures)))
-    (λ c. let o = c .before in let t = o .before in
+    (search (arms, c .sends2 .ensures, c .before .listening .ensures)))
+    (λ c. let l = c .before in let o = l .before in let t = o .before in
     listed Tad _ _ (t .before .before .kind-of .ensures) (t .enum-told3 .given .1)
-    (rw (← o .offset-of2 .ensures) (search (arms, c .tad .ensures))))
+    (rw (← o .offset-of2 .ensures) (search (arms, c .sends3 .ensures, l .tad .ensures))))
+    (λ c. let t = c .before .before in
+    listed Unt _ _ (t .before .before .kind-of .ensures) (t .enum-told4 .given .1)
+    (search (arms, c .sends4 .ensures, c .before .talking .ensures)))
+    (λ c. let t = c .before .before in
+    listed Ifc _ _ (t .before .before .kind-of .ensures) (t .enum-told5 .given .1)
+    (search (arms, c .sends5 .ensures, c .before .roles .ensures)))
+    (λ c. let t = c .before .before in
+    listed Aau _ _ (t .before .before .kind-of .ensures) (t .enum-told6 .given .1)
+    (search (arms, c .sends6 .ensures, c .before .aau .ensures)))
     (λ c. let t = c .before in
-    listed Unt _ _ (t .before .before .kind-of .ensures) (t .enum-told4 .given .1) (search (arms, c .talking .ensures)))
+    listed Dcl _ _ (t .before .before .kind-of .ensures) (t .enum-told7 .given .1)
+    (search (arms, c .reports .ensures)))
     (λ c. let t = c .before in
-    listed Ifc _ _ (t .before .before .kind-of .ensures) (t .enum-told5 .given .1) (search (arms, c .roles .ensures)))
+    listed Sdc _ _ (t .before .before .kind-of .ensures) (t .enum-told8 .given .1)
+    (search (arms, c .to-listener .ensures)))
     (λ c. let t = c .before in
-    listed Aau _ _ (t .before .before .kind-of .ensures) (t .enum-told6 .given .1) (search (arms, c .aau .ensures)))
-    returns-7)
+    listed Get _ _ (t .before .before .kind-of .ensures) (t .enum-told9 .given .1)
+    (search (arms, c .to-listener2 .ensures)))
+    (λ c. let t = c .before .before in
+    listed Ren _ _ (t .before .before .kind-of .ensures) (t .enum-told10 .given .1)
+    (search (arms, c .sends7 .ensures, c .before .ren .ensures)))
+    (λ c. let t = c .before .before in
+    listed Nre _ _ (t .before .before .kind-of .ensures) (t .enum-told11 .given .1)
+    (search (arms, c .sends8 .ensures, c .before .nre .ensures)))
+    (λ c. let t = c .before .before in
+    listed Llo _ _ (t .before .before .kind-of .ensures) (t .enum-told12 .given .1)
+    (search (arms, c .sends9 .ensures, c .before .llo .ensures)))
+    (λ c. let t = c .before .before in
+    listed Gtl _ _ (t .before .before .kind-of .ensures) (t .enum-told13 .given .1)
+    (search (arms, c .sends10 .ensures, c .before .gtl .ensures)))
+    returns-14)

@@ -9,8 +9,8 @@ use Rattle.area.specs.declared.Place.{Place}
 use Rattle.area.proofs.Areas.{loop-good}
 use Rattle.calls.specs.Drain.{canHop, highest}
 use Rattle.calls.proofs.Owing.{owed-few}
-use Rattle.calls.proofs.Turns.{Turn, first-turn, none-left, none-more, handed-over, next-turn, next-top, highest-found}
-use Rattle.calls.proofs.Turns.{highest-next, highest-none}
+use Rattle.calls.proofs.Turns.{Turn, first-turn, none-left, none-more, handed-over, event-seen, next-turn, next-top}
+use Rattle.calls.proofs.Turns.{highest-found, highest-next, highest-none}
 use borrow.Author.Needs.{needs}
 use Rattle.drain.proofs.drain_in.Statement.{statement}
 use Rattle.drain.proofs.drain_in.Tie as tie
@@ -107,21 +107,28 @@ cast-device c =
     let n = u .before .before .before .before .before .before in
     omega (arith, found u .1, n .devices-in .ensures)
 
+cast-device-2 : tie.Need-cast-device-2 Inv-search μ-search Inv-turns μ-turns
+cast-device-2 c =
+    let u = c .before .before .before .before .before .before .before .before .before in
+    let n = u .before .before .before .before .before .before in
+    omega (arith, found u .1, n .devices-in .ensures)
+
 past-requires : tie.Need-past-requires Inv-search μ-search Inv-turns μ-turns
 past-requires c κs =
-    let u = c .before .before .before .before .before .before .before in
+    let u = c .before .before .before .before .before .before .before .before .before in
     let n = u .before .before .before .before .before .before in
     omega (arith, found u .1, n .devices-in .ensures)
 
 turns-less : tie.Need-turns-less Inv-search μ-search Inv-turns μ-turns
 turns-less c =
-    let m = c .before .before .before .before .before .before .before in
+    let m = c .before .before .before .before .before .before .before .before .before in
     let w = m .before .before .before .before .before .before in
     omega (arith, w .turns .inv .0 .within, m .if3 .left)
 
 turns-again : tie.Need-turns-again Inv-search μ-search Inv-turns μ-turns
 turns-again c =
-    let k = c .before in
+    let e = c .before in
+    let k = e .before .before in
     let h = k .before .before .before .before in
     let m = h .before .before in
     let u = m .before in
@@ -131,7 +138,7 @@ turns-again c =
     let p = h .hop-at in
     let f = found u in (
       next-turn _ (t .area) _ _ (t .hops) (t .inv .0) (r .search .i - 1) (f .0) (f .1) (f .2) (m .if3 .left)
-          (p .result) _ (p .ensures) (k .if4 .left) (p .kept .0),
+          (p .result) _ (p .ensures) (k .if4 .left) (e .if5 .left) (p .kept .0),
       (
         omega (arith, c .past .ensures),
         next-top _ (t .area) _ _ (t .hops) (t .inv .0) (r .search .i - 1) (f .0) (f .1) (f .2) (m .if3 .left)
@@ -182,6 +189,26 @@ returns-3 c =
     handed-over _ (t .area) _ _ (t .hops) (t .inv .0) (r .search .i - 1) (f .0) (f .1) (f .2) (m .if3 .left)
     (p .result) _ (p .ensures) (c .if4 .taken)
 
+same-length-4 : tie.Need-same-length-4 Inv-search μ-search Inv-turns μ-turns
+same-length-4 c =
+    let h = c .before .before .before .before .before .before in
+    let w = h .before .before .before .before .before .before .before .before in
+    h .hop-at .kept .0 ∙ w .turns .inv .0 .long
+
+returns-4 : tie.Need-returns-4 Inv-search μ-search Inv-turns μ-turns
+returns-4 c =
+    let k = c .before .before in
+    let h = k .before .before .before .before in
+    let m = h .before .before in
+    let u = m .before in
+    let r = u .before .before .before .before in
+    let w = r .before in
+    let t = w .turns in
+    let p = h .hop-at in
+    let f = found u in
+    event-seen _ (t .area) _ _ (t .hops) (t .inv .0) (r .search .i - 1) (f .0) (f .1) (f .2) (m .if3 .left)
+    (p .result) _ (p .ensures) (t .end) (t .inv .4) (k .if4 .left) (c .if5 .taken)
+
 pub drain-in-spec : {M : Type 1} → statement M
 drain-in-spec =
     tie.close
@@ -201,6 +228,7 @@ drain-in-spec =
     hop-at-requires
     add-hops
     cast-device
+    cast-device-2
     past-requires
     turns-less
     turns-again
@@ -209,4 +237,6 @@ drain-in-spec =
     same-length-2
     returns-2
     same-length-3
-    returns-3)
+    returns-3
+    same-length-4
+    returns-4)

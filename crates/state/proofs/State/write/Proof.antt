@@ -21,5 +21,7 @@ write-spec =
     (λ c. search needs)
     (λ c. simp length-set (search needs))
     (λ c. simp length-set (search needs))
+    (λ c. simp length-set (search needs))
+    (λ c. simp length-set (search needs))
     (λ c. simp length-set)
     (λ c. search needs))

@@ -1,0 +1,16 @@
+-- `commands::to_listener` meets its contract: each return follows from the test on its way.
+use borrow.Author.Needs.{needs}
+use Rattle.device.specs.Clear.{toListener}
+use Rattle.device.proofs.Arms.{arms}
+use Rattle.commands.proofs.to_listener.Statement.{statement}
+use Rattle.commands.proofs.to_listener.Tie as tie
+
+pub to-listener-spec : {M : Type 1} → statement M
+unfolding toListener
+to-listener-spec =
+    tie.close
+    (tie.spec
+    (λ c κs. search needs)
+    (λ c. search (arms, c .reports .ensures))
+    (λ c κs. search needs)
+    (λ c. search (arms, c .sends .ensures)))

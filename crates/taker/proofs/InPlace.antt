@@ -1,0 +1,25 @@
+-- A state written to a record makes it the record of the device with that state: so what is passed on, put back, is
+-- what the device does in its record.
+use Prim.Native.Nat.{ℕ}
+use mathlib.Core.Path.{_≡_, sym, ap, _∙_}
+use mathlib.Core.List.{List}
+use Rattle.device.specs.Sent.{Sent}
+use Rattle.record.specs.Record.{deviceOf, recordOf}
+use Rattle.record.specs.Written.{written, IsRecord}
+use Rattle.state.specs.State.{values, sentFrom}
+use Rattle.state.specs.declared.Passed.{Passed}
+use Rattle.state.proofs.Laws.{write-back}
+use Rattle.taker.specs.InPlace.{InPlace}
+
+pub put-in : (b : List ℕ) (s : Sent) (p r : Passed) (c : List ℕ) → IsRecord b → sentFrom b p ≡ s → r ≡ p →
+    c ≡ written (values (p .state)) b → InPlace b s r c
+put-in b s p r c i e same h =
+    rw same
+    (record {
+      passes = e;
+      leaves =
+          h
+          ∙ ap (written (values (p .state))) (sym (i .whole))
+          ∙ write-back (deviceOf b) (p .state)
+          ∙ ap (λ (x : Sent). recordOf (x .device)) e;
+    })

@@ -1,0 +1,2 @@
+-- What is put back into a record.
+pub mod InPlace
