@@ -31,7 +31,8 @@ enum {
     FULL_RUN = 1000000, /* calls from which on the counts below are demanded */
     LEAST = 100, /* how often each refusal must be given, a byte come back, a message be encoded, hops be owed, data be
                     loaded and end, devices be cleared and triggered, and loops be saved and opened in each way */
-    LEAST_MOVES = 10, /* how often each message must come to a device in each state of remote and local */
+    LEAST_MOVES = 10, /* how often each message must come to a device in each state of remote and local, and each event to
+                         one that is sending */
     LONG = 8,    /* a loop of so many devices or more is a long one */
     MOST_OWED = 2 * PIL_MOST_DEVICES * (PIL_MOST_DEVICES + 1), /* hops */
     FORMER_MOST = 15, /* devices of the longest loop before 02, j */
@@ -151,7 +152,8 @@ static uint64_t refusals[REFUSALS], talkers[TALKERS], reasons[REASONS], returned
 static uint64_t owings[OWINGS], savings[SAVINGS], openings[OPENINGS], origins[ORIGINS], spoilings[SPOILINGS];
 static uint64_t loads[ASKINGS][LOAD_REFUSALS], storings[STORINGS], lasts[PIL_LAST_END + 1], old_saves[OLD_SAVES];
 static uint64_t keys[REFUSALS], moves[MOVERS + 1][STANDINGS], standings[STANDINGS], actings[ACTINGS + 1];
-static uint64_t event_stops[EVENT_STOPS], calls_of[WHICH], sizes[SIZES], head_bits, editions;
+static uint64_t sender_events[PIL_EVENT_TRIGGER + 1], event_stops[EVENT_STOPS], calls_of[WHICH], sizes[SIZES];
+static uint64_t head_bits, editions;
 
 /* The history under way: its number, its number of devices, the frame taken last, and whether one frame, many or all
    that the links can hold are under way. */
@@ -401,6 +403,8 @@ static void count_hop(unsigned device, const struct answer *hopped)
     standings[standing(area_of(PIL) + PIL_RECORD_AT(device))]++;
     moves[mover(r, frame)][standing(r)]++;
     actings[acting(r, frame)]++;
+    if (r[PIL_RECORD_TALKER] >= PIL_TALKER_DATA)
+        sender_events[hopped->event]++;
     if (r[PIL_RECORD_TALKER] >= PIL_TALKER_DATA && frame < PIL_C3)
         returned[other & PIL_DATA_BITS ? OTHER_DATA : other / PIL_C1]++;
     if (data_sent(device) && all_sent(device))
@@ -1560,6 +1564,8 @@ static int report_remote(void)
     enough &= report_counts("clears by DCL at a listener (0), at another device (1), by SDC at a listener (2), none at "
                             "another (3); triggers by GET at a listener (4), none at another (5)", actings, 0, ACTINGS,
                             LEAST);
+    enough &= report_counts("clears (1) and triggers (2) at a device that is sending", sender_events, PIL_EVENT_CLEAR,
+                            PIL_EVENT_TRIGGER + 1, LEAST_MOVES);
     enough &= report_counts("drains stopped by a clear (0) or trigger (1) with budget left, with it spent (2, 3)",
                             event_stops, 0, EVENT_STOPS, LEAST);
     return enough;

@@ -282,7 +282,7 @@ static void opened_as_new(void)
     must(memcmp(save, tried, save_len) == 0, "the opened old save is not saved as a new one", 0);
 }
 
-/* The loop's save as it was written before loads took a choice; with any byte 19 not zero it is refused with 2. */
+/* The loop's save in the form from before loads took a choice; with any byte 19 not zero it is refused with 2. */
 static void old_save(void)
 {
     memcpy(tried, save, sizeof tried);

@@ -31,7 +31,7 @@ use Rattle.saved.specs.Calls.{saveOf}
 use Rattle.demands.specs.Calls.{numbers, Local, localBy, Action, put, hop, take, local, drain, owes, save, Answer}
 use Rattle.demands.specs.Calls.{plain, hopped, taken, drained, owing, saving, acts}
 use Rattle.demands.specs.Histories.{call, Got, got, reported, if, hopTells, putBy, takenBy, handedBy, hopsBy}
-use Rattle.demands.specs.Histories.{refusedBy, papers, calls, hopSeen, callSeen, turnSeen, isDrain}
+use Rattle.demands.specs.Histories.{refusedBy, papers, calls, callSeen, turnSeen, isDrain}
 use Rattle.demands.proofs.Bridge.{toLoop, Alike, put-alike, take-alike, hop-alike, local-alike}
 use Rattle.demands.proofs.Drains.{drainAnswer, drained-alike}
 

@@ -339,9 +339,9 @@ pub record RemoteLocal : Type 0 where
   -- At every device: no message that 2.17 does not name changes state or flag, and IFC does not;
   pub others-leave-remote : OthersLeaveRemote
   pub ifc-leaves-remote : IfcLeavesRemote
-  -- LLO and own LAD act only while enabled, GTL only at an addressed listener, the key only in unlocked remote.
+  -- LLO and own LAD change them only while enabled; GTL acts only at an addressed listener, the key in unlocked remote.
   pub only-enabled : OnlyEnabled
   pub gtl-only-listener : GtlOnlyListener
   pub key-only-unlocked : KeyOnlyUnlocked
-  -- Every state is sound with either flag; with zeros in both bytes a record is judged as before they had a meaning.
+  -- Every state is sound with either flag where local is with the flag clear, which is what zeros in the two bytes say.
   pub any-remote : AnyRemote

@@ -7,7 +7,7 @@ use native.Mathlib.Omega.{arith}
 use native.Mathlib.Decide.{decLt}
 use lib.Dec.{eqb, ltb}
 use borrow.Author.Tests.{eqb-true, ne-eqb, ltb-false}
-use Rattle.frame.specs.declared.Kind.the-variants.{End, Gtl, Sdc, Get, Llo, Dcl, Aad}
+use Rattle.frame.specs.declared.Kind.the-variants.{End, Sdc, Get, Dcl, Aad}
 use Rattle.frame.specs.Messages.{kindAt, messages, firstIn, firstOf, codesIn, codesOf}
 use Rattle.frame.specs.Classes.{IsCommand}
 use Rattle.frame.specs.Decoding.{dab, end, hasC1, decoded}

@@ -18,26 +18,20 @@ nre d = enabling (remoting d LOCS) 0
 unfoldable pub moves : (state a b c e : ℕ) → ℕ
 moves state a b c e = choose (eqb state a) b (choose (eqb state c) e state)
 
+abbrev pub moved : Device → (a b c e : ℕ) → Device
+moved d a b c e = remoting d (moves (d .remote) a b c e)
+
 -- what own LAD does while enabled, besides `lad`, which asks for the rest: local to remote, locked or not
 unfoldable pub toRemote : Device → Device
-toRemote d =
-    choose (eqb (d .enabled) 1)
-    (remoting d (moves (d .remote) LOCS REMS LWLS RWLS))
-    d
+toRemote d = choose (eqb (d .enabled) 1) (moved d LOCS REMS LWLS RWLS) d
 
 -- LLO, while enabled: local and remote become locked
 unfoldable pub llo : Device → Device
-llo d =
-    choose (eqb (d .enabled) 1)
-    (remoting d (moves (d .remote) LOCS LWLS REMS RWLS))
-    d
+llo d = choose (eqb (d .enabled) 1) (moved d LOCS LWLS REMS RWLS) d
 
 -- GTL, at an addressed listener: remote to local, the lock as it was
 unfoldable pub gtl : Device → Device
-gtl d =
-    choose (eqb (d .listener) 1)
-    (remoting d (moves (d .remote) REMS LOCS RWLS LWLS))
-    d
+gtl d = choose (eqb (d .listener) 1) (moved d REMS LOCS RWLS LWLS) d
 
 -- the panel key: unlocked remote to local, and nothing from any other state
 unfoldable pub key : Device → Device

@@ -1,9 +1,9 @@
 -- Remote and local beside 001, section 2.17: where each of its four states goes under every message and the panel key,
 -- with the flag clear (RIDS) and set (RACS). One statement, computed in proofs/RemoteTable.antt.
-use Prim.Native.Nat.{ℕ, _+_}
+use Prim.Native.Nat.{ℕ, _+_, _-_}
 use mathlib.Core.Path.{_≡_}
 use mathlib.Core.List.{List, [], _∷_, _++_, map}
-use Rattle.device.specs.Device.{listen, autoAddress, LOCS, REMS, LWLS, RWLS}
+use Rattle.device.specs.Device.{listen, autoAddress, unaddress, LOCS, REMS, LWLS, RWLS}
 use Rattle.device.specs.PowerOn.{powerOn}
 use Rattle.device.specs.Change.{listening, placed, remoting, enabling}
 use Rattle.device.specs.Remote.{key}
@@ -17,18 +17,19 @@ RIDS = 0
 abbrev pub RACS : ℕ
 RACS = 1
 
--- a device at address 5: a listener; one that could be; one that cannot listen
+-- a device at address 5: a listener with every ability; one that could be, and can do nothing else; one that can do all
+-- but listen
 abbrev pub at5 : (abilities listener : ℕ) → Device
 at5 a l = listening (placed (powerOn (a ∷ 0x1f ∷ [])) 5 1) l
 
 abbrev pub listener : Device
-listener = at5 (autoAddress + listen) 1
+listener = at5 0xff 1
 
 abbrev pub unaddressed : Device
 unaddressed = at5 (autoAddress + listen) 0
 
 abbrev pub unable : Device
-unable = at5 autoAddress 0
+unable = at5 (0xff - listen - unaddress) 0
 
 -- what reaches it: a frame, or the key, which is 001's local message rtl
 pub data Given : Type 0 where

@@ -169,11 +169,11 @@ OthersLeaveRemote = (d : Device) (f : ℕ) → (MovesRemote f → ⊥) → SameR
 abbrev pub IfcLeavesRemote : Type 0
 IfcLeavesRemote = (d : Device) (f : ℕ) → Of Ifc f → SameRemote d (takes d f .device)
 
--- LLO and own LAD act only while enabled,
+-- Of remote and local, LLO and own LAD change nothing but while enabled,
 abbrev pub OnlyEnabled : Type 0
 OnlyEnabled = (d : Device) (f : ℕ) → (d .enabled ≡ 1 → ⊥) → Of Llo f ⊎ Of Lad f → SameRemote d (takes d f .device)
 
--- and GTL only at an addressed listener.
+-- and GTL changes nothing at all but at an addressed listener.
 abbrev pub GtlOnlyListener : Type 0
 GtlOnlyListener = (d : Device) (f : ℕ) → (d .listener ≡ 1 → ⊥) → Of Gtl f → takes d f .device ≡ d
 

@@ -2,7 +2,7 @@
 use device::Device;
 use state::State;
 ghost use mathlib.Core.Path.{_≡_};
-ghost use Rattle.device.specs.Remote.{ren, nre, moves, toRemote, llo, gtl};
+ghost use Rattle.device.specs.Remote.{ren, nre, moves, moved, toRemote, llo, gtl};
 ghost use Rattle.device.specs.declared.Device.{Device};
 ghost use Rattle.state.specs.State.{with};
 
@@ -40,13 +40,19 @@ fn moves(state: u8, a: u8, b: u8, c: u8, e: u8) -> u8
     state
 }
 
+fn moved(state: State, a: u8, b: u8, c: u8, e: u8) -> State
+    ensures { λ r. ⌜ ((d : Device) → with d r ≡ moved (with d state) a b c e) ⌝ }
+{
+    let next = moves(state.remote, a, b, c, e);
+    state.remoting(next)
+}
+
 // What the device's own LAD does besides; that it is its own, and that it can listen, `lad` asks.
 pub fn to_remote(state: State) -> State
     ensures { λ r. ⌜ ((d : Device) → with d r ≡ toRemote (with d state)) ⌝ }
 {
     if state.enabled == 1 {
-        let next = moves(state.remote, LOCS, REMS, LWLS, RWLS);
-        return state.remoting(next);
+        return moved(state, LOCS, REMS, LWLS, RWLS);
     }
     state
 }
@@ -57,8 +63,7 @@ pub fn llo(state: State) -> State
     if state.enabled != 1 {
         return state;
     }
-    let next = moves(state.remote, LOCS, LWLS, REMS, RWLS);
-    state.remoting(next)
+    moved(state, LOCS, LWLS, REMS, RWLS)
 }
 
 // It works while not enabled too.
@@ -66,8 +71,7 @@ pub fn gtl(state: State) -> State
     ensures { λ r. ⌜ ((d : Device) → with d r ≡ gtl (with d state)) ⌝ }
 {
     if state.listener == 1 {
-        let next = moves(state.remote, REMS, LOCS, RWLS, LWLS);
-        return state.remoting(next);
+        return moved(state, REMS, LOCS, RWLS, LWLS);
     }
     state
 }

@@ -37,7 +37,7 @@ fn put_back(passed: Passed, rec: &mut [u8]) -> Passed
 
 impl Taker {
     // By the frame's class (001, control bits). Each class puts its state back by itself: the compiler then sees which
-    // values it cannot alter, and neither reads nor writes them.
+    // values it cannot alter, and can leave some of them out.
     pub fn take(self, rec: &mut [u8], frame: u16) -> Passed
         requires { ⌜ IsRecord (now rec) × IsData (self .0 .last) ⌝ }
         ensures { λ r. ⌜ InPlace (now (rec .entry)) (takes (inRecord (now (rec .entry)) (self .0)) frame) r

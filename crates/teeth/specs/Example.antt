@@ -1,7 +1,5 @@
--- A worked example of demand 3, computed in proofs/Example.antt: two devices, two frames under way at once, a local
--- call between them, the loop put away and opened, a drain that hands a byte, one that reports a trigger, and a call
--- that is refused; and the same right round. Beside it the hops owed, and a history that begins at an opening with
--- frames in the links.
+-- A worked example of demand 3, computed in proofs/Example.antt: two devices, frames under way at once, drains, a loop
+-- put away, and the same right round; the hops owed beside it, and a history from an opening with frames in the links.
 use Prim.Native.Nat.{ℕ, _+_, _-_, _*_}
 use mathlib.Core.Path.{_≡_}
 use mathlib.Core.List.{List, [], _∷_, _++_, map}

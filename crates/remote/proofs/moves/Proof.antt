@@ -1,5 +1,4 @@
 -- `remote::moves` meets its contract: each return follows from the tests on its way.
-use borrow.Author.Needs.{needs}
 use Rattle.device.specs.Remote.{moves}
 use Rattle.device.proofs.Arms.{arms}
 use Rattle.remote.proofs.moves.Statement.{statement}

@@ -1,29 +1,14 @@
--- `remote::to_remote` meets its contract: where the test is passed the state moves, and else nothing does.
-use Prim.Native.Nat.{ℕ}
-use mathlib.Core.Path.{ap, _∙_}
+-- `remote::to_remote` meets its contract: while enabled the state moves, and else nothing does.
 use borrow.Author.Needs.{needs}
-use Rattle.device.specs.Change.{remoting}
 use Rattle.device.specs.Remote.{toRemote}
 use Rattle.device.proofs.Arms.{arms, when-eq}
-use Rattle.state.specs.State.{with}
 use Rattle.remote.proofs.to_remote.Statement.{statement}
 use Rattle.remote.proofs.to_remote.Tie as tie
 
 returns : tie.Need-returns
 unfolding toRemote
-returns c d =
-    let m = c .before in
-    let i = m .before in
-    let s = i .before .before in
-    when-eq _ _ (i .if1 .taken)
-    (c .remoting .ensures d ∙ ap (λ (x : ℕ). remoting (with d (s .args .state)) x) (m .moves .ensures))
+returns c d = when-eq _ _ (c .before .if1 .taken) (c .moved .ensures d)
 
 pub to-remote-spec : {M : Type 1} → statement M
 unfolding toRemote
-to-remote-spec =
-    tie.close
-    (tie.spec
-    (λ c κs. search needs)
-    (λ c κs. search needs)
-    returns
-    (λ c. search arms))
+to-remote-spec = tie.close (tie.spec (λ c κs. search needs) returns (λ c. search arms))
