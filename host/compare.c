@@ -31,8 +31,8 @@ enum {
     FULL_RUN = 1000000, /* calls from which on the counts below are demanded */
     LEAST = 100, /* how often each refusal must be given, a byte come back, a message be encoded, hops be owed, data be
                     loaded and end, devices be cleared and triggered, and loops be saved and opened in each way */
-    LEAST_MOVES = 10, /* how often each message must come to a device in each state of remote and local, and each event to
-                         one that is sending */
+    LEAST_MOVES = 10, /* how often each message must come to a device in each state of remote and local, and each event
+                         to one that is sending */
     LONG = 8,    /* a loop of so many devices or more is a long one */
     MOST_OWED = 2 * PIL_MOST_DEVICES * (PIL_MOST_DEVICES + 1), /* hops */
     FORMER_MOST = 15, /* devices of the longest loop before 02, j */
