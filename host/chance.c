@@ -55,7 +55,7 @@ uint64_t wild_number(uint64_t good)
 
 uint8_t damaged_value(uint8_t good)
 {
-    static const uint8_t limits[] = {0, 1, 2, 3, 4, 5, 6, 7, 8, 9, 30, 31, 32, 33, 128, 255};
+    static const uint8_t limits[] = {0, 1, 2, 3, 4, 5, 6, 7, 8, 9, 15, 16, 30, 31, 32, 33, 128, 255};
 
     switch (below(4)) {
     case 0: return (uint8_t)(good ^ 1u << below(8));
@@ -99,37 +99,48 @@ static unsigned chance_address(void)
     }
 }
 
-static void chance_item(uint8_t *item)
+size_t chance_item_length(void)
 {
-    memset(item, 0, PIL_ITEM_LENGTH);
+    return one_in(3) ? PIL_ITEM_LENGTH : PIL_POLL_ITEM_LENGTH;
+}
+
+static void chance_item(uint8_t *item, size_t length)
+{
+    memset(item, 0, length);
     item[PIL_ITEM_ABILITIES] = (uint8_t)chance_abilities();
     item[PIL_ITEM_FIXED] = (uint8_t)(one_in(2) ? PIL_NO_ADDRESS : chance_address());
     item[PIL_ITEM_ACCESSORY] = (uint8_t)chance();
     item[PIL_ITEM_ID_LENGTH] = (uint8_t)below(PIL_MOST_ID + 1);
     chance_bytes(item + PIL_ITEM_ID, item[PIL_ITEM_ID_LENGTH]);
+    if (length > PIL_ITEM_MORE)
+        item[PIL_ITEM_MORE] = one_in(4) ? 0 : PIL_MORE_POLL;
 }
 
-void chance_items(uint8_t *items, unsigned n)
+void chance_items(uint8_t *items, unsigned n, size_t length)
 {
     for (unsigned i = 0; i < n; i++)
-        chance_item(items + PIL_ITEMS_LENGTH(i));
+        chance_item(items + i * length, length);
 }
 
-void spoil_item(uint8_t *item)
+void spoil_item(uint8_t *item, size_t length)
 {
     static const uint8_t not_allowed[] = {
         PIL_ABILITY_SERVICE, 0xff - PIL_ABILITY_STATUS, PIL_ABILITY_UNADDRESS, 0x7f - PIL_ABILITY_LISTEN,
         PIL_ABILITY_UNADDRESS | PIL_ABILITY_LISTEN, PIL_ABILITY_UNADDRESS | PIL_ABILITY_DATA,
         PIL_ABILITY_UNADDRESS | PIL_ABILITY_AUTO_ADDRESS | PIL_ABILITY_LISTEN};
-    unsigned length = below(PIL_MOST_ID);
-    unsigned past = length + below(PIL_MOST_ID - length);
+    unsigned id_length = below(PIL_MOST_ID);
+    unsigned past = id_length + below(PIL_MOST_ID - id_length);
 
+    if (length > PIL_ITEM_MORE && one_in(3)) {
+        item[PIL_ITEM_MORE] = (uint8_t)(one_in(2) ? 2 : 2 + below(254));
+        return;
+    }
     switch (below(4)) {
     case 0: item[PIL_ITEM_ABILITIES] = not_allowed[below(sizeof not_allowed)]; break;
     case 1: item[PIL_ITEM_FIXED] = (uint8_t)(one_in(2) ? 32 : 32 + below(224)); break;
     case 2: item[PIL_ITEM_ID_LENGTH] = (uint8_t)(one_in(2) ? 9 : 9 + below(247)); break;
     default:
-        item[PIL_ITEM_ID_LENGTH] = (uint8_t)length;
+        item[PIL_ITEM_ID_LENGTH] = (uint8_t)id_length;
         item[PIL_ITEM_ID + past] = (uint8_t)(1 + below(255));
     }
 }
@@ -220,35 +231,51 @@ static unsigned remote_command(const uint8_t *r)
     return code(all[below(sizeof all)]);
 }
 
+/* The frames of 02, f, and IFC: for a device told how to answer often an IDY, else PPE as often as all the rest. */
+static unsigned poll_frame(const uint8_t *r)
+{
+    static const uint8_t others[] = {PIL_KIND_PPD, PIL_KIND_PPD, PIL_KIND_PPU, PIL_KIND_PPU, PIL_KIND_IFC};
+
+    if (r[PIL_RECORD_POLL] != PIL_POLL_NONE && one_in(2))
+        return code(PIL_KIND_IDY) + (one_in(3) ? 0 : below(0x200));
+    if (one_in(2))
+        return code(others[below(sizeof others)]);
+    return code(PIL_KIND_PPE) + below(16);
+}
+
 unsigned chance_frame(const uint8_t *area, unsigned taken)
 {
     const uint8_t *r = chance_talker_record(area);
     unsigned choice = below(100);
 
-    if (r[PIL_RECORD_TALKER] != PIL_TALKER_IDLE && one_in(2))
+    if (r[PIL_RECORD_TALKER] != PIL_TALKER_IDLE && below(5) < 3)
         return awaited_frame(r);
     if (choice < 30 && taken < code(PIL_KIND_NUL))
         return returned_byte(taken);
     if (choice < 15)
         return remote_command(chance_record(area));
-    if (choice < 50)
+    if (choice < 32)
+        return poll_frame(chance_record(area));
+    if (choice < 52)
         return code(PIL_KIND_TAD) + (one_in(5) ? below(31) : address_in_use(area));
-    if (choice < 62)
+    if (choice < 64)
         return code(PIL_KIND_LAD) + (one_in(5) ? below(31) : address_in_use(area));
     if (choice < 73)
         return code(PIL_KIND_SDA) + below(4);
     if (choice < 80)
         return code(PIL_KIND_AAD) + chance_address();
-    if (choice < 83)
+    if (choice < 82)
         return code(PIL_KIND_NRD);
-    if (choice < 87)
+    if (choice < 88)
         return code(PIL_KIND_IDY) + below(0x200);
     if (choice < 91)
         return below(0x400);
-    if (choice < 95)
+    if (choice < 93)
         return single_command();
-    if (choice < 98)
+    if (choice < 96)
         return remote_command(chance_record(area));
+    if (choice < 98)
+        return poll_frame(chance_record(area));
     return below(PIL_FRAMES);
 }
 
@@ -295,14 +322,21 @@ static void chance_reply(uint8_t *r)
         r[PIL_RECORD_REPLY_SENT] = 1;
 }
 
+void chance_poll(uint8_t *r)
+{
+    r[PIL_RECORD_POLL] = (uint8_t)(below(5) < 2 ? PIL_POLL_NONE : PIL_POLL_CONFIGURED + below(16));
+    r[PIL_RECORD_POLL_STATUS] = (uint8_t)below(2);
+}
+
 static void chance_sound_record(uint8_t *r)
 {
-    uint8_t item[PIL_ITEM_LENGTH];
+    uint8_t item[PIL_POLL_ITEM_LENGTH];
     unsigned abilities;
 
-    chance_item(item);
+    chance_item(item, sizeof item);
     memset(r, 0, PIL_RECORD_LENGTH);
     r[PIL_RECORD_ABILITIES] = item[PIL_ITEM_ABILITIES];
+    r[PIL_RECORD_MORE] = item[PIL_ITEM_MORE];
     r[PIL_RECORD_FIXED] = r[PIL_RECORD_ADDRESS] = item[PIL_ITEM_FIXED];
     r[PIL_RECORD_ACCESSORY] = item[PIL_ITEM_ACCESSORY];
     r[PIL_RECORD_ID_LENGTH] = item[PIL_ITEM_ID_LENGTH];
@@ -323,6 +357,8 @@ static void chance_sound_record(uint8_t *r)
     r[PIL_RECORD_REMOTE] = (uint8_t)below(PIL_REMOTE_LOCKED + 1);
     r[PIL_RECORD_ENABLED] = (uint8_t)below(2);
     r[PIL_RECORD_END] = (uint8_t)below(2);
+    if (r[PIL_RECORD_MORE] & PIL_MORE_POLL)
+        chance_poll(r);
     chance_reply(r);
 }
 

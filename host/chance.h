@@ -19,10 +19,14 @@ uint64_t wild_number(uint64_t good);
 uint8_t damaged_value(uint8_t good);
 /* A number of devices: mostly few, sometimes any or the most. */
 unsigned chance_devices(void);
-/* Items for n devices, all allowed. */
-void chance_items(uint8_t *items, unsigned n);
-/* Makes an allowed item one that is not. */
-void spoil_item(uint8_t *item);
+/* One of the lengths that an item can have. */
+size_t chance_item_length(void);
+/* Items of that length for n devices, all allowed. */
+void chance_items(uint8_t *items, unsigned n, size_t length);
+/* Makes an allowed item of that length one that is not. */
+void spoil_item(uint8_t *item, size_t length);
+/* Gives the record of a device that can be polled any configuration and poll status. */
+void chance_poll(uint8_t *record);
 /* Fills the area of n devices with sound records and links in any states. */
 void chance_sound_area(uint8_t *area, unsigned n);
 /* The frame in two bytes of a record or a link. */

@@ -3,6 +3,7 @@
 #include "both.h"
 #include "chance.h"
 #include "order.h"
+#include "polls.h"
 #include "spoil.h"
 
 #include <inttypes.h>
@@ -24,15 +25,15 @@ enum {
     ROOM = GUARD + PIL_AREA_LENGTH(PIL_MOST_DEVICES + 1) + GUARD, /* longer than the longest area */
     SAVED_ROOM = GUARD + PIL_SAVE_LENGTH(PIL_MOST_DEVICES + 1) + GUARD, /* longer than the longest save */
     INPUT_ROOM = SAVE_ROOM,                                 /* items, bytes to load or a save to open */
-    ITEMS_ROOM = PIL_ITEMS_LENGTH(PIL_MOST_DEVICES + 2),    /* longest items tried */
+    ITEMS_ROOM = (PIL_POLL_ITEM_LENGTH + 1) * (PIL_MOST_DEVICES + 2), /* longest items tried */
     MOST_LOAD = 40,                                         /* longest load tried */
     DEFAULT_SEED = 20240,
     DEFAULT_CALLS = 1150000,
     FULL_RUN = 1000000, /* calls from which on the counts below are demanded */
-    LEAST = 100, /* how often each refusal must be given, a byte come back, a message be encoded, hops be owed, data be
-                    loaded and end, devices be cleared and triggered, and loops be saved and opened in each way */
-    LEAST_MOVES = 10, /* how often each message must come to a device in each state of remote and local, and each event
-                         to one that is sending */
+    LEAST = 100, /* how often each refusal must be given, and bytes come back, messages, hops owed, loads, ends of data,
+                    events, set-ups, saves, openings, poll statuses and counts of polls be met in each way */
+    LEAST_MOVES = 10, /* how often each message must come to a device in each state of remote and local and of polls,
+                         each IDY meet each answer, and each event come to one that is sending */
     LONG = 8,    /* a loop of so many devices or more is a long one */
     MOST_OWED = 2 * PIL_MOST_DEVICES * (PIL_MOST_DEVICES + 1), /* hops */
     FORMER_MOST = 15, /* devices of the longest loop before 02, j */
@@ -94,6 +95,18 @@ static const uint8_t event_of[ACTINGS + 1] = {PIL_EVENT_CLEAR, PIL_EVENT_CLEAR, 
 /* A drain that stopped on an event: a clear or a trigger, with budget left or spent by that hop. */
 enum event_stop { CLEAR_LEFT, TRIGGER_LEFT, CLEAR_SPENT, TRIGGER_SPENT, EVENT_STOPS };
 
+/* How a set-up ends: with items of 12 bytes accepted or refused with 2; with items of 13 bytes accepted or refused with
+   2, for a last byte alone or for others; with 1, for items of lengths mixed, of 14 bytes, or of another length. */
+enum setting {
+    SHORT_ITEMS, SHORT_UNSOUND, LONG_ITEMS, LONG_LAST, LONG_UNSOUND, MIXED_ITEMS, LONGER_ITEMS, OTHER_ITEMS, SETTINGS
+};
+
+/* A poll status set: no or yes where it was the same, or was the other; and yes by a number whose low byte is zero. */
+enum stating { NO_AS_BEFORE, YES_AS_BEFORE, YES_TO_NO, NO_TO_YES, YES_BY_HIGH, STATINGS };
+
+/* What is counted: a frame that is no IDY, a number that is no frame, an IDY without C1, and one with it. */
+enum counting { NO_IDY, NO_FRAME, IDY_C1_0, IDY_C1_1, COUNTINGS };
+
 /* How an encoding ends: accepted, or refused for one cause alone or for several. */
 enum encoding { WITH_C1_0, WITH_C1_1, BAD_KIND, BAD_OFFSET, C1_OVER_1, C1_WITHOUT_ONE, SEVERAL_CAUSES, ENCODINGS };
 
@@ -120,19 +133,22 @@ enum old_save { OLD_OPENED, END_CHOSEN, END_NOT_CHOSEN, OLD_WITH_CHOICE, OLD_SAV
    opening of more than there could be; a set-up of one too many; and a length that is wrong but in its lowest byte. */
 enum size { FORMER, MORE, MOST, MORE_OPENED, TOO_MANY, LOW_BYTE_RIGHT, SIZES };
 
+/* Those from DECODE on have no area. */
 enum which {
-    SET_UP, PUT, HOP, TAKE, LOAD, LOAD_END, STATUS, WISH, KEY, DRAIN, OWED, SAVE, OPEN, DECODE, ENCODE, WHICH
+    SET_UP, PUT, HOP, TAKE, LOAD, LOAD_END, STATUS, WISH, KEY, POLL_STATUS, DRAIN, OWED, SAVE, OPEN, DECODE, ENCODE,
+    POLL_COUNT, WHICH
 };
 
 static const char *const names[WHICH] = {"set_up", "put", "hop", "take", "load", "load_end", "status", "wish", "key",
-                                         "drain", "owed", "save", "open", "decode", "encode"};
+                                         "poll_status", "drain", "owed", "save", "open", "decode", "encode",
+                                         "poll_count"};
 
 /* A call with its arguments; the bytes of set_up, load, load_end and open stand in input. */
 struct call {
     enum which which;
     size_t area_len;
     uint64_t number; /* frame, device, budget or kind */
-    uint64_t second; /* choice, status, wish or offset */
+    uint64_t second; /* choice, status, wish, poll status or offset */
     uint64_t third;  /* C1 */
     size_t input_len;
     size_t saved_len; /* of the output of save */
@@ -140,7 +156,7 @@ struct call {
 
 /* Every field that any call answers. */
 struct answer {
-    uint64_t refusal, frame, handed, byte, end, event, hops, reason, device, kind, offset, c1;
+    uint64_t refusal, frame, handed, byte, end, event, hops, reason, device, kind, offset, c1, ones, lowest;
 };
 
 static uint8_t rooms[2][ROOM], before[ROOM];
@@ -154,6 +170,10 @@ static uint64_t loads[ASKINGS][LOAD_REFUSALS], storings[STORINGS], lasts[PIL_LAS
 static uint64_t keys[REFUSALS], moves[MOVERS + 1][STANDINGS], standings[STANDINGS], actings[ACTINGS + 1];
 static uint64_t sender_events[PIL_EVENT_TRIGGER + 1], event_stops[EVENT_STOPS], calls_of[WHICH], sizes[SIZES];
 static uint64_t head_bits, editions;
+static uint64_t settings[SETTINGS + 1], poll_statuses[REFUSALS], statings[STATINGS];
+static uint64_t countings[COUNTINGS], ones[DATA_BITS + 1], lowests[PIL_NO_BIT + 1];
+static uint64_t tellings[TELLERS + 1][POLLEDS], ppes_obeyed[2][PPES]; /* by devices not told before, told otherwise */
+static uint64_t idys[2][POLLEDS], answers_due[2][2][PPES]; /* not asking, asking; bit zero, one, status no, yes */
 
 /* The history under way: its number, its number of devices, the frame taken last, and whether one frame, many or all
    that the links can hold are under way. */
@@ -222,6 +242,11 @@ static struct answer encoded_answer(struct pil_encoded e)
     return (struct answer){.refusal = e.refusal, .frame = e.frame};
 }
 
+static struct answer polled_answer(struct pil_polled p)
+{
+    return (struct answer){.refusal = p.refusal, .ones = p.ones, .lowest = p.lowest};
+}
+
 static struct answer refusal_answer(uint8_t refusal)
 {
     return (struct answer){.refusal = refusal};
@@ -242,11 +267,13 @@ static struct answer make(int side, const struct call *c)
     case STATUS: return refusal_answer(of->status(area, c->area_len, c->number, (uint8_t)c->second));
     case WISH: return refusal_answer(of->wish(area, c->area_len, c->number, c->second));
     case KEY: return refusal_answer(of->key(area, c->area_len, c->number));
+    case POLL_STATUS: return refusal_answer(of->poll_status(area, c->area_len, c->number, c->second));
     case DRAIN: return drained_answer(of->drain(area, c->area_len, c->number));
     case OWED: return owing_answer(of->owed(area, c->area_len));
     case SAVE: return refusal_answer(of->save(area, c->area_len, save_of(side), c->saved_len));
     case OPEN: return refusal_answer(of->open(area, c->area_len, input, c->input_len));
     case DECODE: return decoded_answer(of->decode(c->number));
+    case POLL_COUNT: return polled_answer(of->poll_count(c->number));
     default: return encoded_answer(of->encode(c->number, c->second, c->third));
     }
 }
@@ -257,9 +284,9 @@ static void print_answer(int side, const struct answer *a)
 {
     printf("  %-5s answers refusal %" PRIu64 " frame %03" PRIx64 " handed %" PRIu64 " byte %02" PRIx64
            " end %" PRIu64 " event %" PRIu64 " hops %" PRIu64 " reason %" PRIu64 " device %" PRIu64 " kind %" PRIu64
-           " offset %" PRIu64 " C1 %" PRIu64 "\n",
+           " offset %" PRIu64 " C1 %" PRIu64 " ones %" PRIu64 " lowest %" PRIu64 "\n",
            both[side].name, a->refusal, a->frame, a->handed, a->byte, a->end, a->event, a->hops, a->reason, a->device,
-           a->kind, a->offset, a->c1);
+           a->kind, a->offset, a->c1, a->ones, a->lowest);
 }
 
 static void print_bytes(const char *what, const uint8_t *bytes, size_t length)
@@ -392,6 +419,22 @@ static int is_end(const struct answer *hopped)
     return (hopped->frame & PIL_C2) != 0;
 }
 
+/* What the frame told the device of polls, and for an IDY what answer was due. */
+static void count_poll(const uint8_t *r, unsigned frame)
+{
+    enum polled stood = polled(r);
+    unsigned told = told_after(r, frame), number = r[PIL_RECORD_POLL] % PPES;
+
+    tellings[teller(r, frame)][stood]++;
+    if (told != 0 && told != r[PIL_RECORD_POLL])
+        ppes_obeyed[stood >= TOLD][told % PPES]++;
+    if (frame < FIRST_IDY)
+        return;
+    idys[r[PIL_RECORD_SERVICE] == PIL_SERVICE_ASKING][stood]++;
+    if (stood >= TOLD)
+        answers_due[(frame & answer_bit(r)) != 0][stood == TOLD_YES][number]++;
+}
+
 /* The device hopped: how it stands, how its own byte came back if it took one, and how its last went out. */
 static void count_hop(unsigned device, const struct answer *hopped)
 {
@@ -403,6 +446,7 @@ static void count_hop(unsigned device, const struct answer *hopped)
     standings[standing(area_of(PIL) + PIL_RECORD_AT(device))]++;
     moves[mover(r, frame)][standing(r)]++;
     actings[acting(r, frame)]++;
+    count_poll(r, frame);
     if (r[PIL_RECORD_TALKER] >= PIL_TALKER_DATA)
         sender_events[hopped->event]++;
     if (r[PIL_RECORD_TALKER] >= PIL_TALKER_DATA && frame < PIL_C3)
@@ -470,6 +514,66 @@ static void count_key(const struct call *c, const struct answer *a)
         moves[BY_KEY][standing(before + GUARD + PIL_RECORD_AT(c->number))]++;
 }
 
+static void count_poll_status(const struct call *c, const struct answer *a)
+{
+    unsigned was, yes = c->second != 0;
+
+    poll_statuses[a->refusal]++;
+    if (a->refusal != PIL_ACCEPTED)
+        return;
+    was = before[GUARD + PIL_RECORD_AT(c->number) + PIL_RECORD_POLL_STATUS];
+    statings[(was == yes ? NO_AS_BEFORE : YES_TO_NO) + yes]++;
+    statings[YES_BY_HIGH] += yes && c->second % 256 == 0;
+}
+
+static void count_count(const struct call *c, const struct answer *a)
+{
+    if (a->refusal != PIL_ACCEPTED) {
+        countings[c->number < PIL_FRAMES ? NO_IDY : NO_FRAME]++;
+        return;
+    }
+    countings[c->number & PIL_C1 ? IDY_C1_1 : IDY_C1_0]++;
+    ones[a->ones]++;
+    lowests[a->lowest]++;
+}
+
+/* The number of devices whose area has this length, 0 if there is none. */
+static unsigned devices_of(size_t area_len)
+{
+    for (unsigned devices = 1; devices <= PIL_MOST_DEVICES; devices++)
+        if (area_len == PIL_AREA_LENGTH(devices))
+            return devices;
+    return 0;
+}
+
+/* Whether items of 13 bytes would be allowed with other last bytes. */
+static int others_allowed(const struct call *c)
+{
+    static uint8_t scratch[PIL_AREA_LENGTH(PIL_MOST_DEVICES)];
+    uint8_t items[ITEMS_ROOM];
+
+    memcpy(items, input, c->input_len);
+    for (unsigned i = 0; PIL_POLL_ITEM_AT(i) < c->input_len; i++)
+        items[PIL_POLL_ITEM_AT(i) + PIL_ITEM_MORE] = 0;
+    return model_set_up(scratch, c->area_len, items, c->input_len) == PIL_ACCEPTED;
+}
+
+/* SETTINGS where the area has the length of no loop. */
+static enum setting setting(const struct call *c, const struct answer *a)
+{
+    unsigned devices = devices_of(c->area_len);
+
+    if (devices == 0)
+        return SETTINGS;
+    if (a->refusal == PIL_SHAPE && c->input_len == (PIL_POLL_ITEM_LENGTH + 1) * devices)
+        return LONGER_ITEMS;
+    if (a->refusal == PIL_SHAPE)
+        return c->input_len / devices == PIL_ITEM_LENGTH ? MIXED_ITEMS : OTHER_ITEMS;
+    if (c->input_len == PIL_ITEMS_LENGTH(devices))
+        return a->refusal == PIL_ACCEPTED ? SHORT_ITEMS : SHORT_UNSOUND;
+    return a->refusal == PIL_ACCEPTED ? LONG_ITEMS : others_allowed(c) ? LONG_LAST : LONG_UNSOUND;
+}
+
 static void count_drain(const struct call *c, const struct answer *a)
 {
     reasons[a->reason]++;
@@ -485,6 +589,12 @@ static void count_answer(const struct call *c, const struct answer *a)
         count_drain(c, a);
     if (c->which == KEY)
         count_key(c, a);
+    if (c->which == POLL_STATUS)
+        count_poll_status(c, a);
+    if (c->which == POLL_COUNT)
+        count_count(c, a);
+    if (c->which == SET_UP)
+        settings[setting(c, a)]++;
     if (c->which == HOP && a->refusal == PIL_ACCEPTED)
         count_hop((unsigned)c->number, a);
     if (is_load(c))
@@ -529,7 +639,7 @@ static int choice_obeyed(const struct call *c, const struct answer *a)
 
 static int is_of_device(const struct call *c)
 {
-    return is_load(c) || c->which == HOP || c->which == STATUS || c->which == WISH || c->which == KEY;
+    return is_load(c) || c->which == HOP || (c->which >= STATUS && c->which <= POLL_STATUS);
 }
 
 /* A hop and the key move the device between remote and local as the table says, and no other local call does (02, d):
@@ -560,6 +670,50 @@ static int event_by_table(const struct call *c, const struct answer *a)
     by = acting(was, frame_taken(c->number));
     return a->event == event_of[by]
         && (by == ACTINGS || memcmp(area_of(PIL) + PIL_RECORD_AT(c->number), was, PIL_RECORD_LENGTH) == 0);
+}
+
+/* A hop tells a device how to answer polls and answers an IDY as the tables say, its call alone sets a poll status, and
+   byte 7 stays (02, f): no model is needed to see this. */
+static int polled_by_table(const struct call *c, const struct answer *a)
+{
+    const uint8_t *was, *now;
+    unsigned frame, told, status;
+
+    if (a->refusal != PIL_ACCEPTED || !is_of_device(c))
+        return 1;
+    was = before + GUARD + PIL_RECORD_AT(c->number);
+    now = area_of(PIL) + PIL_RECORD_AT(c->number);
+    frame = c->which == HOP ? frame_taken(c->number) : 0;
+    told = c->which == HOP ? told_after(was, frame) : was[PIL_RECORD_POLL];
+    status = c->which == POLL_STATUS ? c->second != 0 : was[PIL_RECORD_POLL_STATUS];
+    return now[PIL_RECORD_MORE] == was[PIL_RECORD_MORE] && now[PIL_RECORD_POLL] == told
+        && now[PIL_RECORD_POLL_STATUS] == status && (frame < FIRST_IDY || a->frame == idy_after(was, frame));
+}
+
+/* A poll status refused with none of 1, 2, 3 gives 7 just where byte 7 is zero, whatever other abilities are (02, f):
+   no model is needed to see this. */
+static int refused_by_ability(const struct call *c, const struct answer *a)
+{
+    if (c->which != POLL_STATUS || (a->refusal != PIL_ACCEPTED && a->refusal != PIL_NO_ABILITY))
+        return 1;
+    return (a->refusal == PIL_NO_ABILITY) == (before[GUARD + PIL_RECORD_AT(c->number) + PIL_RECORD_MORE] == 0);
+}
+
+/* An accepted set-up gives each device the further abilities of its item, none where that has 12 bytes, and tells it
+   nothing (02, f): no model is needed to see this. */
+static int able_by_items(const struct call *c, const struct answer *a)
+{
+    unsigned devices = area_of(PIL)[PIL_HEADER_DEVICES];
+    int longer = c->input_len == PIL_POLL_ITEMS_LENGTH(devices);
+
+    for (unsigned i = 0; c->which == SET_UP && a->refusal == PIL_ACCEPTED && i < devices; i++) {
+        const uint8_t *r = area_of(PIL) + PIL_RECORD_AT(i);
+
+        if (r[PIL_RECORD_MORE] != (longer ? input[PIL_POLL_ITEM_AT(i) + PIL_ITEM_MORE] : 0)
+            || r[PIL_RECORD_POLL] != 0 || r[PIL_RECORD_POLL_STATUS] != 0)
+            return 0;
+    }
+    return 1;
 }
 
 /* The most that so many devices can owe: 02, k. */
@@ -675,7 +829,9 @@ static struct answer compare_call(const struct call *c)
         differs("the choice how the last byte goes out is not obeyed", c, answers);
     if (!moved_by_table(c, &answers[PIL]) || !event_by_table(c, &answers[PIL]))
         differs("not moved between remote and local, or no event told, as the tables say", c, answers);
-    if (c->which != DECODE && c->which != ENCODE)
+    if (!polled_by_table(c, &answers[PIL]) || !refused_by_ability(c, &answers[PIL]) || !able_by_items(c, &answers[PIL]))
+        differs("not polled as the tables say, or not able as the items say", c, answers);
+    if (c->which < DECODE)
         compare_owed(c, answers);
     under_way = NULL;
     count_answer(c, &answers[PIL]);
@@ -774,13 +930,16 @@ static struct call local_call(void)
 {
     unsigned device = one_in(4) ? some_sender() : one_in(2) ? some_talker(PIL_TALKER_ADDRESSED) : below(n);
 
-    switch (below(7)) {
+    switch (below(10)) {
     case 0:
-    case 1: return load_call(device);
-    case 2: return (struct call){.which = STATUS, .number = device, .second = below(256)};
-    case 3: return (struct call){.which = WISH, .number = device, .second = one_in(2) ? 1 : wild_number(0)};
-    case 4:
-    case 5: return (struct call){.which = KEY, .number = below(n)};
+    case 1:
+    case 2: return load_call(device);
+    case 3: return (struct call){.which = STATUS, .number = device, .second = below(256)};
+    case 4: return (struct call){.which = WISH, .number = device, .second = one_in(2) ? 1 : wild_number(0)};
+    case 5:
+    case 6: return (struct call){.which = KEY, .number = below(n)};
+    case 7: return (struct call){.which = POLL_STATUS, .number = below(n), .second = below(2)};
+    case 8: return (struct call){.which = POLL_STATUS, .number = below(n), .second = wild_number(0)};
     default: return (struct call){.which = WISH, .number = device, .second = below(2)};
     }
 }
@@ -797,8 +956,10 @@ static struct call save_call(void)
 
 static struct call set_up_call(void)
 {
-    chance_items(input, n);
-    return (struct call){.which = SET_UP, .input_len = PIL_ITEMS_LENGTH(n)};
+    size_t length = chance_item_length();
+
+    chance_items(input, n, length);
+    return (struct call){.which = SET_UP, .input_len = n * length};
 }
 
 static struct call crowded_call(void)
@@ -836,7 +997,7 @@ static struct call sensible_call(void)
 {
     struct call c;
 
-    if (one_in(6))
+    if (one_in(5))
         c = local_call();
     else if (one_in(12))
         c = drain_call(some_budget());
@@ -868,7 +1029,7 @@ static void wild_number_call(void)
     struct call c = sensible_call();
 
     c.number = wild_number(c.number);
-    if (c.which == WISH || (c.which == LOAD && one_in(2)))
+    if (c.which == WISH || c.which == POLL_STATUS || (c.which == LOAD && one_in(2)))
         c.second = wild_number(c.second);
     compare_call(&c);
 }
@@ -890,6 +1051,14 @@ static size_t wrong_length(size_t right, size_t step, size_t most)
     return other <= most ? other : most;
 }
 
+/* Often between the lengths that items can have, or of items a byte longer. */
+static size_t wrong_items_length(size_t right)
+{
+    if (one_in(2))
+        return wrong_length(right, PIL_ITEM_LENGTH, ITEMS_ROOM);
+    return one_in(3) ? (PIL_POLL_ITEM_LENGTH + 1) * n : PIL_ITEMS_LENGTH(n) + below(n + 1);
+}
+
 /* A wrong length of the area, or of the items; byte 0 is sometimes made to fit it. */
 static void wrong_length_call(void)
 {
@@ -897,7 +1066,7 @@ static void wrong_length_call(void)
     uint8_t first = area_of(MODEL)[0];
 
     if (c.which == SET_UP && one_in(2)) {
-        c.input_len = wrong_length(c.input_len, PIL_ITEM_LENGTH, ITEMS_ROOM);
+        c.input_len = wrong_items_length(c.input_len);
     } else {
         c.area_len = wrong_length(c.area_len, PIL_RECORD_LENGTH + PIL_LINK_LENGTH, ROOM - 2 * GUARD);
         if (one_in(4))
@@ -915,17 +1084,27 @@ static void bad_items_call(void)
     struct call c = set_up_call();
 
     c.area_len = PIL_AREA_LENGTH(n);
-    spoil_item(input + PIL_ITEMS_LENGTH(below(n)));
+    spoil_item(input + below(n) * (c.input_len / n), c.input_len / n);
+    compare_call(&c);
+}
+
+static void wrong_items_call(void)
+{
+    struct call c = set_up_call();
+
+    c.area_len = PIL_AREA_LENGTH(n);
+    c.input_len = wrong_items_length(c.input_len);
     compare_call(&c);
 }
 
 /* Allowed items and an area for one device more than a loop can have. */
 static void too_many_call(void)
 {
+    size_t length = chance_item_length();
     struct call c = {.which = SET_UP, .area_len = PIL_AREA_LENGTH(PIL_MOST_DEVICES + 1),
-                     .input_len = PIL_ITEMS_LENGTH(PIL_MOST_DEVICES + 1)};
+                     .input_len = (PIL_MOST_DEVICES + 1) * length};
 
-    chance_items(input, PIL_MOST_DEVICES + 1);
+    chance_items(input, PIL_MOST_DEVICES + 1, length);
     sizes[TOO_MANY] += compare_call(&c).refusal == PIL_SHAPE;
 }
 
@@ -942,7 +1121,7 @@ static size_t damaged_place(void)
     case 2: return link + below(PIL_LINK_FRAMES);
     case 3: return record + below(PIL_RECORD_LENGTH);
     case 4: return record + PIL_RECORD_END;
-    default: return record + below(PIL_RECORD_ZEROS + 1);
+    default: return record + below(PIL_RECORD_ID);
     }
 }
 
@@ -970,14 +1149,38 @@ static void damage_standing(void)
         set_both(record + PIL_RECORD_ENABLED, one_in(2) ? below(4) : below(256));
 }
 
+/* A device, if possible one that can be polled. */
+static unsigned some_pollable(void)
+{
+    unsigned start = below(n);
+
+    for (unsigned i = 0; i < n; i++)
+        if (area_of(MODEL)[PIL_RECORD_AT((start + i) % n) + PIL_RECORD_MORE])
+            return (start + i) % n;
+    return start;
+}
+
+/* Further abilities, configuration or poll status: any value, or one near the last that is sound. */
+static void damage_poll(void)
+{
+    static const uint8_t limits[] = {1, 8, 15, 16, 31, 32};
+    size_t record = PIL_RECORD_AT(one_in(3) ? below(n) : some_pollable());
+
+    switch (below(5)) {
+    case 0: set_both(record + PIL_RECORD_POLL, 0); set_both(record + PIL_RECORD_POLL_STATUS, 0); /* fall through */
+    case 1: set_both(record + PIL_RECORD_MORE, one_in(4) ? below(256) : 1 + below(2)); break;
+    case 2: set_both(record + PIL_RECORD_POLL_STATUS, one_in(4) ? below(256) : 1 + below(2)); break;
+    default: set_both(record + PIL_RECORD_POLL, one_in(4) ? below(256) : limits[below(sizeof limits)]);
+    }
+}
+
 static void damage(void)
 {
-    if (one_in(6)) {
-        damage_frame();
-        return;
-    }
-    if (one_in(6)) {
-        damage_standing();
+    static void (*const damages[])(void) = {damage_frame, damage_standing, damage_poll};
+    unsigned how = below(7);
+
+    if (how < sizeof damages / sizeof *damages) {
+        damages[how]();
         return;
     }
     for (unsigned times = 1 + below(3); times > 0; times--) {
@@ -1245,6 +1448,39 @@ static struct call code_call(void)
     return encode_call(kind, offset, one_in(2) ? wild_number(c1) : c1);
 }
 
+/* Polls counted. */
+
+static struct pil_polled polled_of(const struct answer *a)
+{
+    return (struct pil_polled){(uint8_t)a->refusal, (uint8_t)a->ones, (uint8_t)a->lowest};
+}
+
+/* Held to the laws of polls.h too. */
+static void compare_count(uint64_t number)
+{
+    struct call c = {.which = POLL_COUNT, .number = number}, less = c;
+    struct answer a = compare_call(&c), fewer = {0};
+
+    if (a.refusal == PIL_ACCEPTED && a.lowest < DATA_BITS) {
+        less.number -= (uint64_t)1 << a.lowest;
+        fewer = compare_call(&less);
+    }
+    if (!counted_right(number, polled_of(&a), polled_of(&fewer))) {
+        print_call("not counted as the laws say", &c);
+        print_answer(PIL, &a);
+        print_answer(PIL, &fewer);
+        exit(1);
+    }
+}
+
+/* Mostly an IDY, sometimes one without ones. */
+static void count_some(void)
+{
+    unsigned idy = FIRST_IDY + (one_in(6) ? 0 : below(PIL_FRAMES - FIRST_IDY));
+
+    compare_count(sometimes_wild(one_in(4) ? below(PIL_FRAMES) : idy));
+}
+
 /* Histories. */
 
 static _Noreturn void wrong_material(const char *what)
@@ -1304,19 +1540,34 @@ static void give_standings(void)
     }
 }
 
+/* And some that can be polled any configuration and poll status. */
+static void give_polls(void)
+{
+    for (unsigned i = 0; i < n; i++) {
+        size_t record = PIL_RECORD_AT(i);
+
+        if (!area_of(MODEL)[record + PIL_RECORD_MORE] || one_in(2))
+            continue;
+        chance_poll(area_of(MODEL) + record);
+        memcpy(area_of(PIL) + record, area_of(MODEL) + record, PIL_RECORD_LENGTH);
+    }
+}
+
 static void history(void)
 {
     begin();
     for (unsigned left = 20 + below(300); left > 0 && made < wanted; left--) {
-        if (one_in(20))
+        if (one_in(12))
             give_standings();
+        if (one_in(12))
+            give_polls();
         switch (below(22)) {
         case 0: wild_number_call(); break;
         case 1: wrong_length_call(); break;
         case 2:
         case 3: damaged_call(); break;
-        case 4: one_in(4) ? too_many_call() : bad_items_call(); break;
-        case 5: there_and_back(code_call()); break;
+        case 4: one_in(4) ? too_many_call() : one_in(3) ? wrong_items_call() : bad_items_call(); break;
+        case 5: one_in(3) ? count_some() : there_and_back(code_call()); break;
         case 6:
         case 7: open_some(); break;
         default: go_on();
@@ -1402,8 +1653,10 @@ static void encode_with_each_c1(uint64_t kind, uint64_t offset)
 
 static void compare_small_codes(void)
 {
-    for (unsigned frame = 0; frame <= 2100; frame++)
+    for (unsigned frame = 0; frame <= 2100; frame++) {
         there_and_back(decode_call(frame));
+        compare_count(frame);
+    }
     for (unsigned kind = 0; kind <= 50; kind++)
         for (unsigned offset = 0; offset <= 0x210; offset++)
             encode_with_each_c1(kind, offset);
@@ -1424,9 +1677,14 @@ static void compare_wide_codes(void)
 {
     static const uint64_t small[] = {UINT64_MAX, 0, 1, 2, PIL_KIND_LAD, PIL_NO_ADDRESS, PIL_KIND_IDY, 0x141};
 
-    for (unsigned bits = 8; bits <= 64; bits++)
+    for (unsigned bits = 8; bits <= 64; bits++) {
+        uint64_t power = bits < 64 ? (uint64_t)1 << bits : 0;
+
         for (unsigned i = 0; i < sizeof small / sizeof *small; i++)
-            compare_with_wide_number((bits < 64 ? (uint64_t)1 << bits : 0) + small[i]);
+            compare_with_wide_number(power + small[i]);
+        for (unsigned idy = FIRST_IDY; idy < PIL_FRAMES; idy += 17)
+            compare_count(power + idy);
+    }
 }
 
 /* Remote and local (02, d): each state under each command, at each kind of device, and each value of the two bytes. */
@@ -1505,6 +1763,117 @@ static int compare_remote(void)
     return all;
 }
 
+/* Parallel poll (02, f): each IDY under each configuration, each command at devices told or not, listeners or not, and
+   each value of the three bytes. */
+
+enum { SOUND_TOLDS = 1 + PPES, NO_POLL = 0, SOUND_PAIRS = 2 * SOUND_TOLDS };
+
+/* Byte 22 of a device told nothing, and of one told by each PPE. */
+static unsigned sound_told(unsigned i)
+{
+    return i == 0 ? 0 : 16 + i - 1;
+}
+
+/* Both areas become a loop of one device with every ability of byte 0 and these three bytes, the frame before it. */
+static void lend_polled(unsigned listener, unsigned more, unsigned told, unsigned status, unsigned frame)
+{
+    lend_device(listener ? 0 : 1, PIL_LOCAL, 0, frame);
+    set_both(PIL_RECORD_AT(0) + PIL_RECORD_MORE, more);
+    set_both(PIL_RECORD_AT(0) + PIL_RECORD_POLL, told);
+    set_both(PIL_RECORD_AT(0) + PIL_RECORD_POLL_STATUS, status);
+}
+
+static struct answer compare_hop(void)
+{
+    struct call hop = hop_call(0);
+
+    hop.area_len = PIL_AREA_LENGTH(1);
+    return compare_call(&hop);
+}
+
+/* Each IDY at a device so told, which asks for service or not; gives how many of them had a bit made a one. */
+static uint64_t compare_idys(unsigned told, unsigned status, unsigned service)
+{
+    uint64_t changed = 0;
+
+    for (unsigned frame = FIRST_IDY; frame < PIL_FRAMES; frame++) {
+        lend_polled(1, PIL_MORE_POLL, told, status, frame);
+        set_both(PIL_RECORD_AT(0) + PIL_RECORD_SERVICE, service);
+        changed += (compare_hop().frame & PIL_DATA_BITS) != (frame & PIL_DATA_BITS);
+    }
+    return changed;
+}
+
+/* Each command at a device of such bytes; gives how many of them changed byte 22. */
+static uint64_t compare_tellings(unsigned listener, unsigned more, unsigned told, unsigned status)
+{
+    uint64_t changed = 0;
+
+    for (unsigned frame = COMMANDS; frame < COMMANDS_END; frame++) {
+        lend_polled(listener, more, told, status, frame);
+        changed += compare_hop().refusal == PIL_ACCEPTED && area_of(PIL)[PIL_RECORD_AT(0) + PIL_RECORD_POLL] != told;
+    }
+    return changed;
+}
+
+/* The refusal of a poll status over any three bytes, which says how they are judged. */
+static uint64_t compare_poll_bytes(unsigned more, unsigned told, unsigned status)
+{
+    struct call c = {.which = POLL_STATUS, .area_len = PIL_AREA_LENGTH(1), .second = 1};
+
+    lend_polled(0, more, told, status, COMMANDS);
+    return compare_call(&c).refusal;
+}
+
+/* All pairs of bytes 22 and 23, with the ability and without; all bytes 7, beside zeros and beside a configuration. */
+static int compare_all_poll_bytes(void)
+{
+    uint64_t with[REFUSALS] = {0}, without[REFUSALS] = {0}, sevens[REFUSALS] = {0};
+    int all;
+
+    for (unsigned told = 0; told < BYTES; told++)
+        for (unsigned status = 0; status < BYTES; status++) {
+            with[compare_poll_bytes(PIL_MORE_POLL, told, status)]++;
+            without[compare_poll_bytes(NO_POLL, told, status)]++;
+        }
+    for (unsigned more = 0; more < BYTES; more++) {
+        sevens[compare_poll_bytes(more, 0, 0)]++;
+        sevens[compare_poll_bytes(more, sound_told(PPES), 1)]++;
+    }
+    all = with[PIL_ACCEPTED] == SOUND_PAIRS && with[PIL_UNSOUND] == BYTES * BYTES - SOUND_PAIRS
+        && without[PIL_NO_ABILITY] == 1 && without[PIL_UNSOUND] == BYTES * BYTES - 1
+        && sevens[PIL_ACCEPTED] == 2 && sevens[PIL_NO_ABILITY] == 1 && sevens[PIL_UNSOUND] == 2 * BYTES - 3;
+    printf("  of %d pairs of bytes 22 and 23 a poll status took %" PRIu64 " with the ability and refused %" PRIu64
+           " with 2, without it %" PRIu64 " with 7 and %" PRIu64 " with 2; of twice %d bytes 7 it took %" PRIu64
+           " and refused %" PRIu64 " with 2%s\n", BYTES * BYTES, with[PIL_ACCEPTED], with[PIL_UNSOUND],
+           without[PIL_NO_ABILITY], without[PIL_UNSOUND], BYTES, sevens[PIL_ACCEPTED], sevens[PIL_UNSOUND],
+           all ? "" : "  NOT ALL");
+    return all;
+}
+
+/* Of 512 IDYs half have a bit zero, which one of two statuses makes a one. A PPE tells a listener all but what it was
+   told already, PPD makes it forget, and PPU any device. */
+static int compare_polls(void)
+{
+    uint64_t made_ones = 0, told_anew = 0, ones_due = 2 * PPES * (PIL_FRAMES - FIRST_IDY) / 2;
+    uint64_t changes_due = 2 * (PPES + PPES * (PPES - 1) + PPES + 2 * PPES);
+    int all;
+
+    for (unsigned i = 0; i < SOUND_TOLDS; i++)
+        for (unsigned status = 0; status < 2; status++) {
+            made_ones += compare_idys(sound_told(i), status, PIL_SERVICE_NONE);
+            made_ones += compare_idys(sound_told(i), status, PIL_SERVICE_ASKING);
+            told_anew += compare_tellings(0, PIL_MORE_POLL, sound_told(i), status);
+            told_anew += compare_tellings(1, PIL_MORE_POLL, sound_told(i), status);
+        }
+    told_anew += compare_tellings(0, NO_POLL, 0, 0) + compare_tellings(1, NO_POLL, 0, 0);
+    all = made_ones == ones_due && told_anew == changes_due;
+    printf("parallel poll: every IDY at %d configurations with either status, asking or not: %" PRIu64 " had a bit "
+           "made a one; every command there, at a listener and at another, and without the ability: %" PRIu64
+           " changed a configuration%s\n", SOUND_TOLDS, made_ones, told_anew, all ? "" : "  NOT ALL");
+    return compare_all_poll_bytes() && all;
+}
+
 static void compare_table(void)
 {
 #if HAVE_KINDS
@@ -1571,6 +1940,44 @@ static int report_remote(void)
     return enough;
 }
 
+static int report_answers(void)
+{
+    static const char *const of[2][2] = {{"zero, status no", "zero, status yes"},
+                                         {"one, status no", "one, status yes"}};
+    int enough = 1;
+
+    for (unsigned one = 0; one < 2; one++)
+        for (unsigned yes = 0; yes < 2; yes++) {
+            printf("  IDYs at devices told by each PPE, their bit ");
+            enough &= report_counts(of[one][yes], answers_due[one][yes], 0, PPES, LEAST_MOVES);
+        }
+    return enough;
+}
+
+static int report_polls(void)
+{
+    int enough = report_counts("poll statuses accepted (0), refused with 1, 2, 3", poll_statuses, 0, PIL_NO_DEVICE + 1,
+                               LEAST);
+
+    enough &= report_counts("  with 7", poll_statuses, PIL_NO_ABILITY, PIL_NO_ABILITY + 1, LEAST);
+    enough &= report_counts("  no (0) and yes (1) as before, yes to no (2), no to yes (3), yes by a number with a low "
+                            "byte of zero (4)", statings, 0, STATINGS, LEAST);
+    for (unsigned by = 0; by < TELLERS; by++) {
+        printf("  without the ability (0), not told and told, status no (1, 3), yes (2, 4), ");
+        enough &= report_counts(tellers[by], tellings[by], 0, POLLEDS, LEAST_MOVES);
+    }
+    enough &= report_counts("PPEs obeyed by a device not told before", ppes_obeyed[0], 0, PPES, LEAST_MOVES);
+    enough &= report_counts("PPEs obeyed by a device told otherwise", ppes_obeyed[1], 0, PPES, LEAST_MOVES);
+    enough &= report_counts("IDYs at devices so standing that ask for no service", idys[0], 0, POLLEDS, LEAST_MOVES);
+    enough &= report_counts("IDYs at those that ask for it", idys[1], 0, POLLEDS, LEAST_MOVES);
+    enough &= report_answers();
+    enough &= report_counts("polls not counted for a frame that is no IDY (0), a number that is no frame (1), counted "
+                            "without C1 (2), with C1 (3)", countings, 0, COUNTINGS, LEAST);
+    enough &= report_counts("ones counted", ones, 0, DATA_BITS + 1, 2);
+    enough &= report_counts("lowest ones", lowests, 0, PIL_NO_BIT + 1, 2);
+    return enough;
+}
+
 /* Header, records and links have a head each. */
 static int report_tried_whole(void)
 {
@@ -1618,6 +2025,10 @@ static int report(void)
                             RETURNED, LEAST);
     enough &= report_loads();
     enough &= report_remote();
+    enough &= report_polls();
+    enough &= report_counts("set-ups of items of 12 bytes accepted (0), refused with 2 (1), of 13 bytes accepted (2), "
+                            "refused with 2 for a last byte (3), for others (4), refused with 1 for lengths mixed (5), "
+                            "for items of 14 bytes (6), for another length (7)", settings, 0, SETTINGS, LEAST);
     enough &= report_counts("encodings accepted with C1 0 (0), with C1 1 (1), refused for the kind (2), the offset "
                             "(3), a C1 over 1 (4), a C1 of 1 on a kind without one (5), several causes (6)", encodings,
                             0, ENCODINGS, LEAST);
@@ -1653,6 +2064,7 @@ int main(int argc, char **argv)
     enough = report();
     compare_table();
     enough &= compare_remote();
+    enough &= compare_polls();
     enough &= order_histories(seed, wanted / 500);
     return enough || wanted < FULL_RUN ? 0 : 2;
 }

@@ -104,6 +104,7 @@ static const struct {
     {"hop of a data byte", data_byte, first_hop, 0x041},
     {"drain of a full link, data bytes", data_bytes, drain, LOOP_DRAIN},
     {"drain of a full link, talk addresses", talk_addresses, drain, LOOP_DRAIN},
+    {"drain of a full link, IDYs answered", polled_loop, drain, LOOP_DRAIN},
     {"busy loop: soundness", busy_loop, refused_hop, PIL_NO_DEVICE},
     {"busy loop: hop of a talker's own byte", busy_loop_to_hop, last_hop,
      LOOP_FIRST_BYTE + PIL_MOST_ID + PIL_MOST_DATA / 2},

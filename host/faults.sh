@@ -1,11 +1,11 @@
 #!/bin/sh
-# Shows that the comparison can fail: with each deliberate fault in the model it must find a difference within twenty
+# Shows that the comparison can fail: with each deliberate fault in the model it must find a difference within thirty
 # thousand calls, for each of three seeds, and without a fault none. So must saves, run on the model in place of libpil,
 # with each fault of writing, reading or judging a save. Use: faults.sh FAULTS SAVE_FAULTS DIRECTORY OLD_SAVE
 # [RUNNER..], faults being numbers.
 faults=$1 save_faults=$2 dir=$3 old_save=$4
 shift 4
-calls=20000
+calls=30000
 status=0
 for seed in 1 2 3; do
     for fault in $faults; do

@@ -29,7 +29,7 @@ static size_t fill_text(size_t length)
     unsigned n = chance_devices();
     size_t at;
 
-    chance_items(items, n);
+    chance_items(items, n, PIL_ITEM_LENGTH);
     chance_sound_area(area, n);
     at = print_loop(text, items, n);
     while (at + 4 <= length)

@@ -8,16 +8,18 @@
 enum {
     STATUS = 0x40,
     ACCESSORY = 0x50,
+    IDY = 0x600,
     MIDDLE = LOOP_DEVICES / 2
 };
 
 void idle_loop(uint8_t *area)
 {
-    uint8_t items[PIL_ITEMS_LENGTH(LOOP_DEVICES)] = {0};
+    uint8_t items[PIL_POLL_ITEMS_LENGTH(LOOP_DEVICES)] = {0};
 
     for (unsigned i = 0; i < LOOP_DEVICES; i++) {
-        items[PIL_ITEMS_LENGTH(i) + PIL_ITEM_ABILITIES] = 0xff;
-        items[PIL_ITEMS_LENGTH(i) + PIL_ITEM_FIXED] = PIL_NO_ADDRESS;
+        items[PIL_POLL_ITEM_AT(i) + PIL_ITEM_ABILITIES] = 0xff;
+        items[PIL_POLL_ITEM_AT(i) + PIL_ITEM_FIXED] = PIL_NO_ADDRESS;
+        items[PIL_POLL_ITEM_AT(i) + PIL_ITEM_MORE] = PIL_MORE_POLL;
     }
     model_set_up(area, LOOP_LENGTH, items, sizeof items);
 }
@@ -55,6 +57,7 @@ void full_record(uint8_t *record, unsigned address, unsigned talker)
     record[PIL_RECORD_FIXED] = record[PIL_RECORD_ADDRESS] = (uint8_t)address;
     record[PIL_RECORD_CONFIGURED] = 1;
     record[PIL_RECORD_TALKER] = (uint8_t)talker;
+    record[PIL_RECORD_MORE] = PIL_MORE_POLL;
     record[PIL_RECORD_STATUS] = STATUS;
     record[PIL_RECORD_ACCESSORY] = ACCESSORY;
     record[PIL_RECORD_ID_LENGTH] = PIL_MOST_ID;
@@ -101,6 +104,16 @@ void busy_loop_to_hop(uint8_t *area)
 void busy_loop_to_drain(uint8_t *area)
 {
     busy_loop_with_tail(area, 0);
+}
+
+void polled_loop(uint8_t *area)
+{
+    idle_loop(area);
+    for (unsigned i = 0; i < LOOP_DEVICES; i++) {
+        area[PIL_RECORD_AT(i) + PIL_RECORD_POLL] = (uint8_t)(PIL_POLL_CONFIGURED + i % 16);
+        area[PIL_RECORD_AT(i) + PIL_RECORD_POLL_STATUS] = i % 3 == 0;
+    }
+    fill_link(area, 0, PIL_LINK_DEPTH, IDY, 1);
 }
 
 void talker_loop(uint8_t *area)

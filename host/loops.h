@@ -34,6 +34,9 @@ void busy_loop(uint8_t *area);
 void busy_loop_to_hop(uint8_t *area);
 /* The same with an empty tail: LOOP_DRAIN hops are possible, the highest device's first. */
 void busy_loop_to_drain(uint8_t *area);
+/* An idle loop whose devices answer parallel polls, told by the PPEs in turn, every third status yes; link 0 holds
+   four IDYs. */
+void polled_loop(uint8_t *area);
 /* Full records of idle devices, but one in the middle is addressed to talk and has sent nothing; links empty. */
 void talker_loop(uint8_t *area);
 

@@ -13,6 +13,7 @@ enum {
     REPLIES = PIL_ABILITY_DATA | PIL_ABILITY_STATUS | PIL_ABILITY_ID | PIL_ABILITY_ACCESSORY,
     ETO = 0x540,
     ETE = 0x541,
+    DATA_PLACES = 8, /* D1 to D8 */
     HEADER_EDITION = PIL_SAVE_EDITION - PIL_SAVE_HEAD_LENGTH /* the edition's place in a saved header */
 };
 
@@ -185,10 +186,44 @@ struct pil_encoded model_encode(uint64_t kind, uint64_t offset, uint64_t c1)
     return (struct pil_encoded){.frame = (uint16_t)(messages[kind].first + offset + PIL_C1 * c1)};
 }
 
+/* Counts go over an IDY alone (02, f). */
+static int is_identify(uint64_t frame)
+{
+    if (frame >= PIL_FRAMES)
+        return 0;
+    return kind_of((unsigned)frame) == PIL_KIND_IDY || MODEL_FAULT == 83;
+}
+
+/* The ones of an IDY's data bits (02, f), looked for from D8 down: the last one found is the lowest. */
+struct pil_polled model_poll_count(uint64_t frame)
+{
+    struct pil_polled polled = {.lowest = MODEL_FAULT == 102 ? 0 : PIL_NO_BIT};
+    struct decoded d;
+
+    if (MODEL_FAULT == 107)
+        frame %= UINT16_MAX + 1;
+    if (!is_identify(frame))
+        return (struct pil_polled){.refusal = PIL_BAD_FRAME};
+    d = decoded(PIL_KIND_IDY, (unsigned)frame);
+    for (unsigned place = DATA_PLACES; place-- > 0;) {
+        if (!(d.offset & 1u << place))
+            continue;
+        if (MODEL_FAULT != 80 || polled.ones == 0)
+            polled.lowest = (uint8_t)place;
+        polled.ones += MODEL_FAULT != 81 || place < DATA_PLACES - 1;
+    }
+    if (MODEL_FAULT == 82)
+        polled.ones = (uint8_t)(polled.ones + d.c1);
+    return polled;
+}
+
 /* Soundness: 01, The lent area. */
 
-static int abilities_allowed(unsigned abilities)
+/* 001, 2.12, has a device with PP1 need the listener function; 02, f, asks for none. */
+static int abilities_allowed(unsigned abilities, unsigned more)
 {
+    if (MODEL_FAULT == 109 && (more & PIL_MORE_POLL) && !(abilities & PIL_ABILITY_LISTEN))
+        return 0;
     if ((abilities & PIL_ABILITY_SERVICE) && !(abilities & PIL_ABILITY_STATUS))
         return 0;
     if ((abilities & PIL_ABILITY_UNADDRESS) && !((abilities & PIL_ABILITY_LISTEN) && (abilities & REPLIES)))
@@ -196,9 +231,16 @@ static int abilities_allowed(unsigned abilities)
     return 1;
 }
 
-static int item_allowed(const uint8_t *item)
+/* Byte 7 of the record that an item of this length becomes (02, f). */
+static unsigned more_of_item(const uint8_t *item, size_t length)
 {
-    return abilities_allowed(item[PIL_ITEM_ABILITIES])
+    return length > PIL_ITEM_MORE && MODEL_FAULT != 93 ? item[PIL_ITEM_MORE] : 0;
+}
+
+static int item_allowed(const uint8_t *item, size_t length)
+{
+    return abilities_allowed(item[PIL_ITEM_ABILITIES], more_of_item(item, length))
+        && more_of_item(item, length) <= PIL_MORE_POLL + (MODEL_FAULT == 101)
         && item[PIL_ITEM_FIXED] <= PIL_NO_ADDRESS
         && item[PIL_ITEM_ID_LENGTH] <= PIL_MOST_ID
         && all_zero(item + PIL_ITEM_ID, item[PIL_ITEM_ID_LENGTH], PIL_MOST_ID);
@@ -212,7 +254,7 @@ static int ranges_hold(const uint8_t *r)
         && r[PIL_RECORD_LISTENER] <= 1
         && r[PIL_RECORD_TALKER] <= PIL_TALKER_ACCESSORY
         && r[PIL_RECORD_SERVICE] <= PIL_SERVICE_POLLED
-        && r[PIL_RECORD_ZERO] == 0
+        && r[PIL_RECORD_MORE] <= PIL_MORE_POLL + (MODEL_FAULT == 92)
         && r[PIL_RECORD_NRD] <= 1
         && r[PIL_RECORD_ID_LENGTH] <= PIL_MOST_ID
         && r[PIL_RECORD_DATA_LENGTH] <= PIL_MOST_DATA
@@ -220,7 +262,7 @@ static int ranges_hold(const uint8_t *r)
         && r[PIL_RECORD_REMOTE] <= PIL_REMOTE_LOCKED + (MODEL_FAULT == 57)
         && r[PIL_RECORD_ENABLED] <= 1 + (MODEL_FAULT == 58)
         && r[PIL_RECORD_END] <= PIL_LAST_END + (MODEL_FAULT == 31)
-        && all_zero(r, PIL_RECORD_ZEROS, PIL_RECORD_ID);
+        && (all_zero(r, PIL_RECORD_ZEROS, PIL_RECORD_POLL) || MODEL_FAULT == 108);
 }
 
 static int address_sound(const uint8_t *r)
@@ -280,6 +322,23 @@ static int reply_sound(const uint8_t *r)
     }
 }
 
+static int pollable(const uint8_t *r)
+{
+    return (r[PIL_RECORD_MORE] & PIL_MORE_POLL) != 0;
+}
+
+/* Configuration and individual status (02, f), which only a device that can be polled has. */
+static int poll_sound(const uint8_t *r)
+{
+    unsigned told = r[PIL_RECORD_POLL], status = r[PIL_RECORD_POLL_STATUS];
+
+    if (!pollable(r))
+        return (told == PIL_POLL_NONE || MODEL_FAULT == 89) && (status == 0 || MODEL_FAULT == 90);
+    if (told != PIL_POLL_NONE && told < PIL_POLL_CONFIGURED && MODEL_FAULT != 88)
+        return 0;
+    return told < 2 * PIL_POLL_CONFIGURED + (MODEL_FAULT == 100) && status <= 1 + (MODEL_FAULT == 91);
+}
+
 static int zero_past_lengths(const uint8_t *r)
 {
     return all_zero(r + PIL_RECORD_ID, r[PIL_RECORD_ID_LENGTH], PIL_MOST_ID)
@@ -288,8 +347,8 @@ static int zero_past_lengths(const uint8_t *r)
 
 static int record_sound(const uint8_t *r)
 {
-    return ranges_hold(r) && abilities_allowed(r[PIL_RECORD_ABILITIES]) && address_sound(r)
-        && states_have_abilities(r) && reply_sound(r) && zero_past_lengths(r);
+    return ranges_hold(r) && abilities_allowed(r[PIL_RECORD_ABILITIES], r[PIL_RECORD_MORE]) && address_sound(r)
+        && states_have_abilities(r) && reply_sound(r) && poll_sound(r) && zero_past_lengths(r);
 }
 
 static int link_sound(const uint8_t *link)
@@ -482,6 +541,82 @@ static unsigned event_of(const uint8_t *r, unsigned kind)
     }
 }
 
+/* Parallel poll: 02, f, and 001, 2.12 and note 5 of the message table. Byte 22 keeps what PPE told, S and BBB. */
+
+/* PPE, for those addressed to listen. */
+static void poll_enable(uint8_t *r, unsigned told)
+{
+    if ((!r[PIL_RECORD_LISTENER] && MODEL_FAULT != 78) || (!pollable(r) && MODEL_FAULT != 79))
+        return;
+    if (MODEL_FAULT == 106 && r[PIL_RECORD_POLL] != PIL_POLL_NONE)
+        return;
+    r[PIL_RECORD_POLL] = (uint8_t)(PIL_POLL_CONFIGURED + (MODEL_FAULT == 96 ? told & PIL_POLL_BIT : told));
+    if (MODEL_FAULT == 113)
+        r[PIL_RECORD_POLL_STATUS] = 0;
+}
+
+/* PPD, for those addressed to listen. */
+static void poll_disable(uint8_t *r)
+{
+    if (!r[PIL_RECORD_LISTENER] && MODEL_FAULT != 77)
+        return;
+    r[PIL_RECORD_POLL] = PIL_POLL_NONE;
+    if (MODEL_FAULT == 85)
+        r[PIL_RECORD_POLL_STATUS] = 0;
+}
+
+/* PPU, for all devices. */
+static void poll_unconfigure(uint8_t *r)
+{
+    if (r[PIL_RECORD_LISTENER] || MODEL_FAULT != 76)
+        r[PIL_RECORD_POLL] = PIL_POLL_NONE;
+    if (MODEL_FAULT == 84)
+        r[PIL_RECORD_POLL_STATUS] = 0;
+}
+
+/* Note 5: with S 1 a device makes its bit a one to say yes, with S 0 to say no. */
+static int makes_one(const uint8_t *r)
+{
+    int yes = r[PIL_RECORD_POLL_STATUS] != 0, s = (r[PIL_RECORD_POLL] & PIL_POLL_SENSE) != 0;
+
+    return s != (MODEL_FAULT == 73) ? yes : !yes;
+}
+
+/* Note 5: 000 is D1, 001 is D2, and so on. */
+static unsigned response_bit(const uint8_t *r)
+{
+    return 1u << ((r[PIL_RECORD_POLL] + (MODEL_FAULT == 74)) & PIL_POLL_BIT);
+}
+
+/* An IDY with the device's response. To say nothing means to send on what came: no bit is cleared. */
+static unsigned poll_response(const uint8_t *r, unsigned frame)
+{
+    if (r[PIL_RECORD_POLL] == PIL_POLL_NONE && (MODEL_FAULT != 98 || !pollable(r)))
+        return frame;
+    if (MODEL_FAULT == 114 && !r[PIL_RECORD_LISTENER])
+        return frame;
+    if (!makes_one(r))
+        return MODEL_FAULT == 75 ? frame & ~response_bit(r) : frame;
+    return (MODEL_FAULT == 97 ? frame & ~(unsigned)PIL_DATA_BITS : frame) | response_bit(r);
+}
+
+static unsigned identify(const uint8_t *r, unsigned frame)
+{
+    if (MODEL_FAULT == 103 && r[PIL_RECORD_POLL] != PIL_POLL_NONE)
+        return poll_response(r, frame);
+    return with_service_bit(r, poll_response(r, frame));
+}
+
+/* The individual status of 2.12. */
+static void individual_status(uint8_t *r, uint64_t status)
+{
+    if (MODEL_FAULT == 110 && r[PIL_RECORD_POLL] == PIL_POLL_NONE)
+        return;
+    if (MODEL_FAULT == 105)
+        status %= UINT8_MAX + 1;
+    r[PIL_RECORD_POLL_STATUS] = MODEL_FAULT == 86 ? (uint8_t)status : status != 0;
+}
+
 static void listen_address(uint8_t *r, unsigned address)
 {
     listen_address_for_control(r, address);
@@ -503,7 +638,7 @@ static void talk_address(uint8_t *r, unsigned address)
         r[PIL_RECORD_LISTENER] = 0;
 }
 
-/* Of remote and local it changes nothing. */
+/* Of remote and local and of the poll it changes nothing. */
 static void interface_clear(uint8_t *r)
 {
     r[PIL_RECORD_LISTENER] = 0;
@@ -512,6 +647,8 @@ static void interface_clear(uint8_t *r)
         control(r, 0, is_locked(r));
     if (MODEL_FAULT == 66)
         r[PIL_RECORD_ENABLED] = 0;
+    if (MODEL_FAULT == 99)
+        r[PIL_RECORD_POLL] = PIL_POLL_NONE;
 }
 
 static void auto_address_unconfigure(uint8_t *r)
@@ -642,6 +779,9 @@ static void obey_command(uint8_t *r, unsigned kind, unsigned frame)
     case PIL_KIND_NRE: not_remote_enable(r); break;
     case PIL_KIND_LLO: local_lockout(r); break;
     case PIL_KIND_GTL: go_to_local(r); break;
+    case PIL_KIND_PPE: poll_enable(r, decoded(PIL_KIND_PPE, frame).offset); break;
+    case PIL_KIND_PPD: poll_disable(r); break;
+    case PIL_KIND_PPU: poll_unconfigure(r); break;
     default: break;
     }
 }
@@ -661,7 +801,7 @@ static unsigned command_ready_or_identify(uint8_t *r, unsigned kind, unsigned fr
     case PIL_KIND_SDI: return asked_to_send(r, PIL_TALKER_ID, frame);
     case PIL_KIND_SAI: return asked_to_send(r, PIL_TALKER_ACCESSORY, frame);
     case PIL_KIND_AAD: return auto_address(r, decoded(PIL_KIND_AAD, frame).offset, frame);
-    case PIL_KIND_IDY: return with_service_bit(r, frame);
+    case PIL_KIND_IDY: return identify(r, frame);
     case PIL_KIND_NRD: note_not_ready(r); return frame;
     default: obey_command(r, kind, frame); return frame;
     }
@@ -678,6 +818,8 @@ static struct pil_hopped device_takes(uint8_t *r, unsigned frame)
     hopped.event = (uint8_t)event_of(r, kind);
     if (MODEL_FAULT == 67 && hopped.event == PIL_EVENT_CLEAR)
         r[PIL_RECORD_LISTENER] = 0;
+    if (MODEL_FAULT == 111 && hopped.event == PIL_EVENT_CLEAR)
+        r[PIL_RECORD_POLL] = PIL_POLL_NONE;
     hopped.frame = (uint16_t)command_ready_or_identify(r, kind, frame);
     return hopped;
 }
@@ -685,9 +827,10 @@ static struct pil_hopped device_takes(uint8_t *r, unsigned frame)
 /* The calls: 01, the part of that name. Conditions are asked in the order of the refusals' numbers. */
 
 /* Makes a record of zeros the power-on record of the item. */
-static void power_on(uint8_t *r, const uint8_t *item)
+static void power_on(uint8_t *r, const uint8_t *item, size_t length)
 {
     r[PIL_RECORD_ABILITIES] = item[PIL_ITEM_ABILITIES];
+    r[PIL_RECORD_MORE] = (uint8_t)more_of_item(item, length);
     r[PIL_RECORD_FIXED] = item[PIL_ITEM_FIXED];
     r[PIL_RECORD_ADDRESS] = item[PIL_ITEM_FIXED];
     r[PIL_RECORD_ACCESSORY] = item[PIL_ITEM_ACCESSORY];
@@ -706,19 +849,32 @@ static unsigned devices_of_length(size_t area_len)
     return (unsigned)((area_len - none) / each);
 }
 
+/* The length of each item where n of them, all alike, have this length together; 0 if there is no such item (02, f). */
+static size_t length_of_item(size_t items_len, unsigned n)
+{
+    size_t each = items_len / n;
+
+    if (items_len % n != 0 && MODEL_FAULT != 94)
+        return 0;
+    return each == PIL_ITEM_LENGTH || each == PIL_POLL_ITEM_LENGTH
+        || (MODEL_FAULT == 95 && each == PIL_POLL_ITEM_LENGTH + 1) ? each : 0;
+}
+
 uint8_t model_set_up(uint8_t *area, size_t area_len, const uint8_t *items, size_t items_len)
 {
     unsigned n = devices_of_length(area_len);
+    size_t length = n == 0 ? 0 : length_of_item(items_len, n);
+    size_t step = MODEL_FAULT == 112 ? PIL_ITEM_LENGTH : length;
 
-    if (n == 0 || items_len != PIL_ITEMS_LENGTH(n))
+    if (length == 0)
         return PIL_SHAPE;
     for (unsigned i = 0; i < n; i++)
-        if (!item_allowed(items + PIL_ITEMS_LENGTH(i)))
+        if (!item_allowed(items + i * step, length))
             return PIL_UNSOUND;
     memset(area, 0, area_len);
     area[PIL_HEADER_DEVICES] = (uint8_t)n;
     for (unsigned i = 0; i < n; i++)
-        power_on(area + PIL_RECORD_AT(i), items + PIL_ITEMS_LENGTH(i));
+        power_on(area + PIL_RECORD_AT(i), items + i * step, length);
     return PIL_ACCEPTED;
 }
 
@@ -874,6 +1030,19 @@ uint8_t model_key(uint8_t *area, size_t area_len, uint64_t device)
     if (!refusal)
         press_key(area + PIL_RECORD_AT(device));
     return refusal;
+}
+
+uint8_t model_poll_status(uint8_t *area, size_t area_len, uint64_t device, uint64_t status)
+{
+    uint8_t refusal = MODEL_FAULT == 104 ? local_refusal(area, area_len, device, PIL_ABILITY_LISTEN)
+                                         : device_refusal(area, area_len, device);
+
+    if (refusal)
+        return refusal;
+    if (!pollable(area + PIL_RECORD_AT(device)) && MODEL_FAULT != 87)
+        return PIL_NO_ABILITY;
+    individual_status(area + PIL_RECORD_AT(device), status);
+    return PIL_ACCEPTED;
 }
 
 /* The highest-numbered device that can hop, -1 if none can. */

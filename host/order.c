@@ -4,6 +4,7 @@
 
 #include "chance.h"
 #include "pil.h"
+#include "polls.h"
 #include "spoil.h"
 
 #include <inttypes.h>
@@ -15,18 +16,18 @@ enum {
     MOST_PUTS = 80,
     MOST_FRAMES = PIL_LINK_DEPTH * (PIL_MOST_DEVICES + 1) + MOST_PUTS, /* in the links at first, and put */
     MOST_LOCALS = 120,
-    LEAST = 100, /* how many histories must begin from an opening, as many of them of an old save, and how often one
-                    must hold a save and its opening, a clear, a trigger, and a key that takes a device to local */
+    LEAST = 100, /* how many histories must begin from an opening, as many of them of an old save, how often one must be
+                    reopened and tell each event, and how often a key, poll status, PPE or IDY must change something */
     LEAST_LONGEST = 50 /* how many must have as many devices as there can be */
 };
 
-enum which { LOAD, STATUS, WISH, KEY, WHICH };
+enum which { LOAD, STATUS, WISH, KEY, POLL_STATUS, WHICH };
 
 /* A local call, and how many hops its device had made before it. */
 struct local {
     enum which which;
     unsigned device, before;
-    uint64_t value; /* choice, status or wish */
+    uint64_t value; /* choice, status, wish or poll status */
     uint8_t bytes[PIL_MOST_DATA];
     size_t length;
 };
@@ -48,6 +49,9 @@ struct loop {
     struct local locals[MOST_LOCALS];
     unsigned accepted;
     unsigned released; /* keys that took a device to local */
+    unsigned restated; /* poll statuses that were another before */
+    unsigned told_anew, made_ones; /* hops that changed byte 22, and that made a bit of an IDY a one; not those of
+                                      drains */
     unsigned reopened; /* times that it was saved and opened */
 };
 
@@ -111,11 +115,15 @@ static int put(struct loop *l, unsigned frame)
 
 static int hop(struct loop *l, unsigned device)
 {
+    const uint8_t *poll = l->area + PIL_RECORD_AT(device) + PIL_RECORD_POLL;
+    unsigned was = *poll, frame = frame_at(l->area + PIL_LINK_AT(l->n, device) + PIL_LINK_FRAMES);
     struct pil_hopped hopped = pil_hop(l->area, l->area_len, device);
 
     if (hopped.refusal != PIL_ACCEPTED)
         return 0;
     l->hops++;
+    l->told_anew += *poll != was;
+    l->made_ones += frame >= FIRST_IDY && (frame & PIL_DATA_BITS) != (hopped.frame & PIL_DATA_BITS);
     if (hopped.handed)
         note_handed(l, device, hopped.byte, hopped.end);
     if (hopped.event)
@@ -153,12 +161,22 @@ static int key(struct loop *l, unsigned device)
     return refusal == PIL_ACCEPTED;
 }
 
+static int poll_status(struct loop *l, unsigned device, uint64_t status)
+{
+    const uint8_t *now = l->area + PIL_RECORD_AT(device) + PIL_RECORD_POLL_STATUS;
+    uint8_t was = *now, refusal = pil_poll_status(l->area, l->area_len, device, status);
+
+    l->restated += *now != was;
+    return refusal == PIL_ACCEPTED;
+}
+
 static int local(struct loop *l, const struct local *c)
 {
     switch (c->which) {
     case LOAD: return pil_load(l->area, l->area_len, c->device, c->bytes, c->length, c->value) == PIL_ACCEPTED;
     case STATUS: return pil_status(l->area, l->area_len, c->device, (uint8_t)c->value) == PIL_ACCEPTED;
     case KEY: return key(l, c->device);
+    case POLL_STATUS: return poll_status(l, c->device, c->value);
     default: return pil_wish(l->area, l->area_len, c->device, c->value) == PIL_ACCEPTED;
     }
 }
@@ -286,14 +304,15 @@ static void begin(struct loop *l, unsigned n)
 
 static void begin_both_by_set_up(unsigned n)
 {
-    uint8_t items[PIL_ITEMS_LENGTH(PIL_MOST_DEVICES)];
+    uint8_t items[PIL_POLL_ITEMS_LENGTH(PIL_MOST_DEVICES)];
+    size_t length = chance_item_length();
 
-    chance_items(items, n);
+    chance_items(items, n, length);
     for (unsigned i = 0; i < 2; i++) {
         struct loop *l = i ? &right_round : &mixed;
 
         begin(l, n);
-        must(pil_set_up(l->area, l->area_len, items, PIL_ITEMS_LENGTH(n)) == PIL_ACCEPTED, "the set-up is refused");
+        must(pil_set_up(l->area, l->area_len, items, n * length) == PIL_ACCEPTED, "the set-up is refused");
     }
 }
 
@@ -326,6 +345,7 @@ static void must_be_equal(void)
     must(memcmp(mixed.tolds, right_round.tolds, sizeof mixed.tolds) == 0, "the number of bytes handed and events");
     must(memcmp(mixed.told, right_round.told, sizeof mixed.told) == 0, "the bytes handed and events");
     must(mixed.released == right_round.released, "the keys that took a device to local");
+    must(mixed.restated == right_round.restated, "the poll statuses that were another before");
     must(mixed.hops == hops_in_all(&mixed), "the hops are not those owed at first and frames put times devices");
     must_owe(&mixed);
     must(right_round.hops == mixed.hops, "the hops");
@@ -353,7 +373,8 @@ static unsigned one_history(int by_opening, int old)
 
 /* What all histories come to. */
 static struct {
-    uint64_t opened, old, at_first, longest, puts, reopened, locals, released, hops, handed, clears, triggers;
+    uint64_t opened, old, at_first, longest, puts, reopened, locals, released, restated, hops, handed, clears, triggers;
+    uint64_t told_anew, made_ones;
 } sums;
 
 static void add_up(void)
@@ -363,6 +384,9 @@ static void add_up(void)
     sums.reopened += mixed.reopened;
     sums.locals += mixed.accepted;
     sums.released += mixed.released;
+    sums.restated += mixed.restated;
+    sums.told_anew += right_round.told_anew;
+    sums.made_ones += right_round.made_ones;
     sums.hops += mixed.hops;
     sums.handed += mixed.handed;
     sums.clears += mixed.events[PIL_EVENT_CLEAR];
@@ -372,7 +396,8 @@ static void add_up(void)
 static int reached_enough(void)
 {
     return sums.opened >= LEAST && sums.old >= LEAST && sums.at_first >= LEAST && sums.longest >= LEAST_LONGEST
-        && sums.reopened >= LEAST && sums.released >= LEAST && sums.clears >= LEAST && sums.triggers >= LEAST;
+        && sums.reopened >= LEAST && sums.released >= LEAST && sums.clears >= LEAST && sums.triggers >= LEAST
+        && sums.restated >= LEAST && sums.told_anew >= LEAST && sums.made_ones >= LEAST;
 }
 
 int order_histories(uint64_t seed, uint64_t histories)
@@ -390,9 +415,11 @@ int order_histories(uint64_t seed, uint64_t histories)
     printf("order: %" PRIu64 " histories equal to their right-round ones, %" PRIu64 " of them from an opening, %" PRIu64
            " of these of an old save, with %" PRIu64 " frames in the links, %" PRIu64 " of %d devices; %" PRIu64
            " frames put, %" PRIu64 " times saved and opened, %" PRIu64 " accepted local calls, %" PRIu64
-           " keys among them to local, %" PRIu64 " hops, %" PRIu64 " bytes handed, %" PRIu64 " clears, %" PRIu64
-           " triggers%s\n", histories, sums.opened, sums.old, sums.at_first, sums.longest, PIL_MOST_DEVICES, sums.puts,
-           sums.reopened, sums.locals, sums.released, sums.hops, sums.handed, sums.clears, sums.triggers,
+           " keys among them to local, %" PRIu64 " poll statuses to another, %" PRIu64 " hops, %" PRIu64
+           " bytes handed, %" PRIu64 " clears, %" PRIu64 " triggers, %" PRIu64 " changes of how to answer polls, %"
+           PRIu64 " bits made ones%s\n", histories, sums.opened, sums.old, sums.at_first, sums.longest,
+           PIL_MOST_DEVICES, sums.puts, sums.reopened, sums.locals, sums.released, sums.restated, sums.hops,
+           sums.handed, sums.clears, sums.triggers, sums.told_anew, sums.made_ones,
            reached_enough() ? "" : "  TOO FEW");
     return reached_enough();
 }

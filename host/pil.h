@@ -16,7 +16,7 @@
 /* The version: the first number rises where a bench has to be changed or compiled anew, the second where something is
    added. */
 #define PIL_VERSION_MAJOR 4
-#define PIL_VERSION_MINOR 0
+#define PIL_VERSION_MINOR 1
 #define PIL_VERSION_PATCH 0
 #define PIL_VERSION (PIL_VERSION_MAJOR * 10000 + PIL_VERSION_MINOR * 100 + PIL_VERSION_PATCH)
 
@@ -29,18 +29,19 @@ extern "C" {
 enum {
     PIL_ACCEPTED = 0,   /* no refusal */
     PIL_SHAPE = 1,      /* the area's length is that of no loop or, but at set-up and opening, not that of its byte 0,
-                           as where it was not set up or opened yet; at set-up items, at saving an output of another
-                           length; at opening an area of another length than the saved loop's */
+                           as where it was not set up or opened yet; at set-up items of neither 12 nor 13 bytes a
+                           device, at saving an output of another length; at opening an area of another length than
+                           the saved loop's */
     PIL_UNSOUND = 2,    /* the area's contents break a rule of "What is sound" below; at set-up an item does, at opening
                            the saved contents do; a load's choice is not 0 or 1; in a save made before version 3 byte
                            19 of a record (PIL_RECORD_END) is not zero */
     PIL_NO_DEVICE = 3,  /* the device number is the number of devices or more */
     PIL_BAD_FRAME = 4,  /* a frame over 2,047; a kind or offset outside the message table, a C1 that is not 0 or 1, or a
-                           C1 of 1 on a kind without one */
+                           C1 of 1 on a kind without one; at a poll count, any number that is no IDY */
     PIL_EMPTY = 5,      /* the link to take from holds no frame */
     PIL_FULL = 6,       /* the link to add to holds four frames */
     PIL_NO_ABILITY = 7, /* the device lacks the ability: data for a load, status for a status, service request for a
-                           wish, also for wish 0 */
+                           wish, also for wish 0, and parallel poll for a poll status, also for 0 */
     PIL_TOO_LONG = 8,   /* a load of more than 32 bytes */
     PIL_BUSY = 9,       /* a load while the device is sending data (talker state 2) */
     PIL_BAD_SAVE = 10   /* at opening, no save: a body of a wrong kind, at a wrong place or of a wrong length, bytes
@@ -126,16 +127,18 @@ enum {
 
 /* Limits and lengths, in bytes where not said otherwise. */
 enum {
-    PIL_MOST_DEVICES = 31,   /* devices of the longest loop */
-    PIL_LINK_DEPTH = 4,      /* frames that a link holds */
-    PIL_MOST_ID = 8,         /* longest device ID */
-    PIL_MOST_DATA = 32,      /* longest load */
-    PIL_NO_ADDRESS = 31,     /* the address that no LAD or TAD names */
-    PIL_ITEM_LENGTH = 12,    /* a device's set-up item */
-    PIL_HEADER_LENGTH = 8,   /* the area's header */
-    PIL_RECORD_LENGTH = 64,  /* a device's record */
-    PIL_LINK_LENGTH = 10,    /* a link */
-    PIL_SAVE_HEAD_LENGTH = 6 /* what stands before each body in a save */
+    PIL_MOST_DEVICES = 31,     /* devices of the longest loop */
+    PIL_LINK_DEPTH = 4,        /* frames that a link holds */
+    PIL_MOST_ID = 8,           /* longest device ID */
+    PIL_MOST_DATA = 32,        /* longest load */
+    PIL_NO_ADDRESS = 31,       /* the address that no LAD or TAD names */
+    PIL_NO_BIT = 8,            /* the number of the lowest one where all eight data bits are zero */
+    PIL_ITEM_LENGTH = 12,      /* a device's set-up item, */
+    PIL_POLL_ITEM_LENGTH = 13, /* and one that gives further abilities too */
+    PIL_HEADER_LENGTH = 8,     /* the area's header */
+    PIL_RECORD_LENGTH = 64,    /* a device's record */
+    PIL_LINK_LENGTH = 10,      /* a link */
+    PIL_SAVE_HEAD_LENGTH = 6   /* what stands before each body in a save */
 };
 
 /* The area of n devices: header, n records, n + 1 links; link i feeds device i and the last link is the tail. */
@@ -147,6 +150,9 @@ enum {
 /* The length of n devices' set-up items, and where device i's item begins. */
 #define PIL_ITEMS_LENGTH(n) (PIL_ITEM_LENGTH * (size_t)(n))
 #define PIL_ITEM_AT(i) (PIL_ITEM_LENGTH * (size_t)(i))
+/* The same of items that give further abilities; in one set-up all items have one length. */
+#define PIL_POLL_ITEMS_LENGTH(n) (PIL_POLL_ITEM_LENGTH * (size_t)(n))
+#define PIL_POLL_ITEM_AT(i) (PIL_POLL_ITEM_LENGTH * (size_t)(i))
 
 /* The save of n devices: header, n records and n + 1 links as they stand in the area, each a body behind a head; but
    in the header's byte 1, zero in the area, a save tells its edition. */
@@ -169,13 +175,20 @@ enum {
     PIL_ABILITY_SERVICE = 128      /* may ask for service; needs status */
 };
 
+/* Further abilities: a longer item's last byte and a record's byte 7. */
+enum {
+    PIL_MORE_POLL = 1 /* answers parallel polls, once a PPE has told it how. It needs no other ability, but a PPE tells
+                         only listeners */
+};
+
 /* Offsets in a set-up item. */
 enum {
     PIL_ITEM_ABILITIES = 0, /* abilities */
     PIL_ITEM_FIXED = 1,     /* fixed address 0-30, 31 for none */
     PIL_ITEM_ACCESSORY = 2, /* accessory ID */
     PIL_ITEM_ID_LENGTH = 3, /* length of the device ID, 0-8 */
-    PIL_ITEM_ID = 4         /* eight bytes: the device ID, zero past its length */
+    PIL_ITEM_ID = 4,        /* eight bytes: the device ID, zero past its length */
+    PIL_ITEM_MORE = 12      /* further abilities, in an item of 13 bytes; one of 12 has none */
 };
 
 /* Offsets in the header. */
@@ -193,7 +206,7 @@ enum {
     PIL_RECORD_LISTENER = 4,     /* 1 if listener, else 0 */
     PIL_RECORD_TALKER = 5,       /* talker state */
     PIL_RECORD_SERVICE = 6,      /* service state */
-    PIL_RECORD_ZERO = 7,         /* zero byte */
+    PIL_RECORD_MORE = 7,         /* further abilities, 0 or 1 */
     PIL_RECORD_NRD = 8,          /* 1 if NRD was seen while sending, else 0 */
     PIL_RECORD_STATUS = 9,       /* status byte */
     PIL_RECORD_ACCESSORY = 10,   /* accessory ID */
@@ -205,7 +218,9 @@ enum {
     PIL_RECORD_REMOTE = 17,      /* remote and local, 0-3 */
     PIL_RECORD_ENABLED = 18,     /* 1 if remote control is enabled, by REN and till NRE, else 0 */
     PIL_RECORD_END = 19,         /* how the last byte of the data goes out: 0 plain, 1 END */
-    PIL_RECORD_ZEROS = 20,       /* four zero bytes */
+    PIL_RECORD_ZEROS = 20,       /* two zero bytes */
+    PIL_RECORD_POLL = 22,        /* how it answers parallel polls: 0 not at all, 16-31 as a PPE told it */
+    PIL_RECORD_POLL_STATUS = 23, /* poll status: 1 for yes, 0 for no */
     PIL_RECORD_ID = 24,          /* eight bytes: the device ID, zero past its length */
     PIL_RECORD_DATA = 32         /* thirty-two bytes: the data, zero past its length */
 };
@@ -264,6 +279,16 @@ enum {
     PIL_REMOTE_LOCKED = 3 /* the loop has control, and the panel key does nothing. LLO locks, and NRE unlocks */
 };
 
+/* How a device answers parallel polls: a record's byte 22. Sense and bit are the parts of a PPE's number too: PPE with
+   PIL_POLL_SENSE + 5 has the listeners show a yes on D6. */
+enum {
+    PIL_POLL_NONE = 0,       /* not at all, as at power-on, after PPU and, at a listener, after PPD */
+    PIL_POLL_BIT = 7,        /* where the number of its data bit stands, 0 for D1 to 7 for D8 */
+    PIL_POLL_SENSE = 8,      /* set: it makes that bit a one where its poll status is yes, not set: where it is no. Else
+                                the bit goes on as it came */
+    PIL_POLL_CONFIGURED = 16 /* set since a PPE told it bit and sense */
+};
+
 /* How the last byte of the data goes out: a load's choice, and a record's byte 19. */
 enum {
     PIL_LAST_PLAIN = 0, /* as a DAB, like the bytes before it */
@@ -281,14 +306,16 @@ enum {
    - there is data without the ability for it; more is sent than there is; or data is being sent and none is sent yet;
    - the reply bytes sent are not 1 while status or accessory ID is sent, not 1 to the ID's length while the ID is sent,
      or not 0 otherwise;
-   - NRD is noted, or a last frame kept, outside the talker states 2 to 5.
+   - NRD is noted, or a last frame kept, outside the talker states 2 to 5;
+   - how to answer parallel polls, or a poll status of 1, is kept without parallel poll.
    Either choice for the last byte is sound in every record, also where there is no data or no ability for it; and so is
    every state of remote and local, with the enable flag 0 or 1 and whatever the abilities.
    So damage that breaks a rule gives 2, and any change of byte 0 gives 1: no other count of devices fits the area's
    length. Damage that leaves a sound area is not seen. A record is judged by itself, so that one copied from another
    sound area may take a device's place (example.c exchanges a meter so).
    A set-up item gives 2 where the record that it would become is not sound: a fixed address over 31, an ID length over
-   8, an ID that is not zero past its length, service request or unaddress without what they need. */
+   8, an ID that is not zero past its length, service request or unaddress without what they need, or a thirteenth byte
+   over 1. */
 
 /* What a hop answers. */
 struct pil_hopped {
@@ -322,6 +349,13 @@ struct pil_owing {
     uint8_t refusal; /* 0 if accepted */
 };
 
+/* What a poll count answers. */
+struct pil_polled {
+    uint8_t refusal; /* 0 if accepted */
+    uint8_t ones;    /* how many of the eight data bits are one */
+    uint8_t lowest;  /* the number of the lowest one, 0 for D1 to 7 for D8; PIL_NO_BIT if there is none, 0 if refused */
+};
+
 /* What the decoder answers. */
 struct pil_decoded {
     uint16_t offset; /* DAB, END, IDY: the data bits; kind 0: 0; others: the frame less the first code of its kind */
@@ -343,7 +377,8 @@ struct pil_encoded {
    is not sound is refused, what is sound is believed. */
 
 /* Writes the power-on loop of the items' devices into the area, whatever that held. The area's length says how many
-   devices there are, PIL_AREA_LENGTH(n) for n, and there are n items. Gives 1, 2. */
+   devices there are, PIL_AREA_LENGTH(n) for n, and there are n items, all of PIL_ITEM_LENGTH bytes or all of
+   PIL_POLL_ITEM_LENGTH. Gives 1, 2. */
 uint8_t pil_set_up(uint8_t *area, size_t area_len, const uint8_t *items, size_t items_len);
 /* Puts a frame of any kind into link 0, which feeds device 0. Gives 1, 2, 4, 6. */
 uint8_t pil_put(uint8_t *area, size_t area_len, uint64_t frame);
@@ -367,6 +402,9 @@ uint8_t pil_wish(uint8_t *area, size_t area_len, uint64_t device, uint64_t wish)
 /* Presses the device's panel key: PIL_REMOTE becomes PIL_LOCAL, enabled or not. In any other state it does nothing, and
    is accepted all the same. It needs no ability. Gives 1, 2, 3. */
 uint8_t pil_key(uint8_t *area, size_t area_len, uint64_t device);
+/* Sets the device's poll status, which it shows in the IDYs that pass it once a PPE has told it how: yes for any number
+   but 0, no for 0. No frame changes it, nor does a wish or pil_status. Gives 1, 2, 3, 7. */
+uint8_t pil_poll_status(uint8_t *area, size_t area_len, uint64_t device, uint64_t status);
 /* Hops the highest-numbered device that can hop, again and again, at most budget times. A hop that hands a byte ends it
    at once, with PIL_STOP_HANDED, and one that reports a clear or trigger with PIL_STOP_EVENT, both even if the budget
    is spent; otherwise, before each hop, PIL_STOP_NO_HOP if none is possible, else PIL_STOP_BUDGET if the budget is
@@ -383,8 +421,8 @@ struct pil_owing pil_owed(const uint8_t *area, size_t area_len);
 /* Writes the loop into the output as its save, over whatever that held, and leaves the area as it was. The output's
    length is PIL_SAVE_LENGTH(n) for n devices, no more and no less; any other gives 1, where the area is unsound too. A
    sound area has one save, of the edition now, and no other has the same. A libpil before version 3 refuses to open a
-   save of this edition, with 2, and version 3 one with a device that is enabled or not PIL_LOCAL. Refused, pil_save
-   leaves the output as it was. Gives 1, 2. */
+   save of this edition, with 2, version 3 one with a device that is enabled or not PIL_LOCAL, and any before 4.1 one
+   with a device that has further abilities. Refused, pil_save leaves the output as it was. Gives 1, 2. */
 uint8_t pil_save(const uint8_t *area, size_t area_len, uint8_t *save, size_t save_len);
 /* Writes the saved loop into the area, whatever that held: every byte of it is then that of the area saved, and the
    frames in its links go on from where they were. The area's length is PIL_AREA_LENGTH(n) for the saved number of
@@ -398,6 +436,9 @@ struct pil_decoded pil_decode(uint64_t frame);
    have offsets 0-255 and C1 0 or 1, the other kinds offsets below the number of their codes and C1 0. Gives 4, as for
    LAD 31: no message has address 31. */
 struct pil_encoded pil_encode(uint64_t kind, uint64_t offset, uint64_t c1);
+/* What an IDY that came back says: how many of its eight data bits are one, and which is the lowest of these. A bit may
+   be one because the IDY was put with it, since no device clears a bit. C1 is not counted. Gives 4. */
+struct pil_polled pil_poll_count(uint64_t frame);
 
 #ifdef __cplusplus
 }

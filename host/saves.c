@@ -1,6 +1,6 @@
-/* Puts loops away in a file and opens them again, opens old saves, tries all of bytes 17 and 18 and what is no save,
-   through libpil.a as a bench calls it. Use: saves FILE OLD; FILE is written and removed, OLD is old_save.bin. Prints a
-   line of counts; exit 1: a difference, 3: wrong use. */
+/* Puts loops away in a file and opens them again, opens old saves, tries all of bytes 7, 17, 18, 20 to 23 and what is
+   no save, through libpil.a as a bench calls it. Use: saves FILE OLD; FILE is written and removed, OLD is old_save.bin.
+   Prints a line of counts; exit 1: a difference, 3: wrong use. */
 #include "pil.h"
 
 #include <stdio.h>
@@ -15,7 +15,10 @@ enum {
     NO_EDITIONS = 254,  /* of its values are no edition */
     STATES = 4,         /* of remote and local: so many values of byte 17 are sound, */
     FLAGS = 2,          /* and so many of byte 18 */
-    NOT_SOUND = 2 * (OTHER_VALUES + 1) - STATES - FLAGS /* the others of both bytes */
+    NOT_SOUND = 2 * (OTHER_VALUES + 1) - STATES - FLAGS, /* the others of both bytes */
+    PPES = 16,          /* ways to answer polls, beside none */
+    POLLED = 1 + 1 + 1 + (1 + PPES) + FLAGS, /* sound values of bytes 7, 20, 21, 22 and 23 where a device is told, */
+    UNPOLLED = FLAGS + 1 + 1 + 1 + 1         /* and where it cannot be polled */
 };
 
 static unsigned devices;
@@ -25,6 +28,7 @@ static uint8_t save[SAVE_ROOM];
 static size_t area_len, save_len;
 static struct { /* what was tried */
     unsigned long frames, bytes, cuts, longer, heads, counts, editions, chosen, choices, standings, not_sound;
+    unsigned long polls, no_polls; /* bytes 7 and 20 to 23 opened, and refused */
 } done;
 
 static void must(int holds, const char *what, size_t place)
@@ -35,16 +39,23 @@ static void must(int holds, const char *what, size_t place)
     exit(1);
 }
 
-/* Devices with every ability, at power-on. */
+/* Every second device can be polled, the first among them. */
+static int pollable(unsigned device)
+{
+    return device % 2 == 0;
+}
+
+/* Devices at power-on with every ability but, in every second one, the poll; the fifth of eight can do nothing else. */
 static void set_up(uint8_t *loop)
 {
-    uint8_t items[PIL_ITEMS_LENGTH(PIL_MOST_DEVICES)] = {0};
+    uint8_t items[PIL_POLL_ITEMS_LENGTH(PIL_MOST_DEVICES)] = {0};
 
     for (unsigned i = 0; i < devices; i++) {
-        items[PIL_ITEM_AT(i) + PIL_ITEM_ABILITIES] = 0xff;
-        items[PIL_ITEM_AT(i) + PIL_ITEM_FIXED] = (uint8_t)i;
+        items[PIL_POLL_ITEM_AT(i) + PIL_ITEM_ABILITIES] = i % 8 == 4 ? 0 : 0xff;
+        items[PIL_POLL_ITEM_AT(i) + PIL_ITEM_FIXED] = (uint8_t)i;
+        items[PIL_POLL_ITEM_AT(i) + PIL_ITEM_MORE] = pollable(i) ? PIL_MORE_POLL : 0;
     }
-    must(pil_set_up(loop, area_len, items, PIL_ITEMS_LENGTH(devices)) == PIL_ACCEPTED, "the set-up is refused", 0);
+    must(pil_set_up(loop, area_len, items, PIL_POLL_ITEMS_LENGTH(devices)) == PIL_ACCEPTED, "the set-up is refused", 0);
 }
 
 static void load(unsigned device, uint64_t end)
@@ -59,6 +70,16 @@ static void set_remote(void)
         area[PIL_RECORD_AT(i) + PIL_RECORD_REMOTE] = (uint8_t)((PIL_REMOTE + i) % STATES);
         area[PIL_RECORD_AT(i) + PIL_RECORD_ENABLED] = (uint8_t)((1 + i / STATES) % FLAGS);
     }
+}
+
+/* Each device that can be polled is told how to answer, by the PPEs in turn, with status no and yes in turn. */
+static void set_polls(void)
+{
+    for (unsigned i = 0; i < devices; i++)
+        if (pollable(i)) {
+            area[PIL_RECORD_AT(i) + PIL_RECORD_POLL] = (uint8_t)(PIL_POLL_CONFIGURED + i / 2 % PPES);
+            area[PIL_RECORD_AT(i) + PIL_RECORD_POLL_STATUS] = (uint8_t)(i / 2 % FLAGS);
+        }
 }
 
 /* Puts frames and lets every device hop, till each link holds some and the tail is full. The last device has data that
@@ -78,6 +99,7 @@ static void make_loop(void)
     }
     must(pil_put(area, area_len, frames[put % 7]) == PIL_ACCEPTED, "a put is refused", 0);
     set_remote();
+    set_polls();
     for (unsigned link = 0; link <= devices; link++) {
         size_t count = PIL_LINK_AT(devices, link) + PIL_LINK_COUNT;
 
@@ -204,20 +226,26 @@ static int is_held_by_tried(const uint8_t *loop)
     return head == save_len;
 }
 
+/* What was tried opens to an area of its bytes. */
+static void opened_as_tried(size_t place, const char *refused_text)
+{
+    memcpy(lent, in_hand, area_len);
+    must(pil_open(lent, area_len, tried, save_len) == PIL_ACCEPTED, refused_text, place);
+    tried[PIL_SAVE_EDITION] = 0; /* as in an area */
+    must(is_held_by_tried(lent), "a sound save is opened as another area", place);
+    tried[PIL_SAVE_EDITION] = PIL_EDITION_NOW;
+}
+
 /* Remote and local (02, d). */
 
-/* The save with one device in each state, not enabled and enabled: it opens to an area of these bytes. */
+/* The save with one device in each state, not enabled and enabled. */
 static void sound_standings(size_t remote_at, size_t enabled_at)
 {
     for (unsigned remote = 0; remote < STATES; remote++)
         for (unsigned enabled = 0; enabled < FLAGS; enabled++, done.standings++) {
             tried[remote_at] = (uint8_t)remote;
             tried[enabled_at] = (uint8_t)enabled;
-            memcpy(lent, in_hand, area_len);
-            must(pil_open(lent, area_len, tried, save_len) == PIL_ACCEPTED, "a byte 17 or 18 is refused", remote_at);
-            tried[PIL_SAVE_EDITION] = 0; /* as in an area */
-            must(is_held_by_tried(lent), "a byte 17 or 18 is opened as another", remote_at);
-            tried[PIL_SAVE_EDITION] = PIL_EDITION_NOW;
+            opened_as_tried(remote_at, "a byte 17 or 18 is refused");
         }
     tried[remote_at] = save[remote_at];
     tried[enabled_at] = save[enabled_at];
@@ -243,6 +271,49 @@ static void remote_bytes(void)
         not_sound_from(STATES, record + PIL_RECORD_REMOTE);
         not_sound_from(FLAGS, record + PIL_RECORD_ENABLED);
     }
+}
+
+/* Parallel poll (02, f). */
+
+static int poll_sound(const uint8_t *record)
+{
+    unsigned told = record[PIL_RECORD_POLL], status = record[PIL_RECORD_POLL_STATUS];
+
+    if (record[PIL_RECORD_ZEROS] != 0 || record[PIL_RECORD_ZEROS + 1] != 0)
+        return 0;
+    if (record[PIL_RECORD_MORE] == 0)
+        return told == 0 && status == 0;
+    return record[PIL_RECORD_MORE] == 1 && (told == 0 || (told >= 16 && told < 16 + PPES)) && status < FLAGS;
+}
+
+/* Every value of one byte of the record, the others as they are. */
+static void poll_values(uint8_t *record, size_t at)
+{
+    size_t place = (size_t)(record + at - tried);
+
+    for (unsigned value = 0; value <= UINT8_MAX; value++) {
+        record[at] = (uint8_t)value;
+        if (poll_sound(record)) {
+            opened_as_tried(place, "a byte 7 or 20 to 23 is refused");
+            done.polls++;
+        } else {
+            refused_with(PIL_UNSOUND, save_len, place, "a save with a byte 7 or 20 to 23 not sound is not refused "
+                         "with 2");
+            done.no_polls++;
+        }
+    }
+    record[at] = save[place];
+}
+
+static void poll_bytes(void)
+{
+    static const uint8_t places[] = {PIL_RECORD_MORE, PIL_RECORD_ZEROS, PIL_RECORD_ZEROS + 1, PIL_RECORD_POLL,
+                                     PIL_RECORD_POLL_STATUS};
+
+    memcpy(tried, save, sizeof tried);
+    for (unsigned i = 0; i < devices; i++)
+        for (unsigned k = 0; k < sizeof places; k++)
+            poll_values(tried + PIL_SAVE_RECORD_AT(i) + PIL_SAVE_HEAD_LENGTH, places[k]);
 }
 
 /* Old saves (02, h). */
@@ -351,7 +422,8 @@ static void old_file(const char *path)
 int main(int argc, char **argv)
 {
     static const unsigned all[] = {1, 2, 7, PIL_MOST_DEVICES};
-    unsigned long bytes = 0, heads = 0, records = 0, chosen = OLD_WITH_DATA, loops = sizeof all / sizeof *all;
+    unsigned long bytes = 0, heads = 0, records = 0, polls = 0, chosen = OLD_WITH_DATA;
+    const unsigned long loops = sizeof all / sizeof *all;
 
     if (argc != 3) {
         fprintf(stderr, "use: saves FILE OLD\n");
@@ -363,22 +435,25 @@ int main(int argc, char **argv)
         through_file(argv[1]);
         no_saves();
         remote_bytes();
+        poll_bytes();
         old_save();
         bytes += 30 + 86 * devices;
         heads += 2 * devices + 2;
         records += devices;
+        polls += (devices + 1) / 2 * POLLED + devices / 2 * UNPOLLED;
         chosen += devices > 1 ? 2 : 1; /* the first device and the last have data */
     }
     old_file(argv[2]);
     must(done.bytes == bytes && done.cuts == bytes && done.longer == loops && done.counts == loops * OTHER_VALUES
          && done.heads == heads * PIL_SAVE_HEAD_LENGTH * OTHER_VALUES && done.editions == loops * NO_EDITIONS
          && done.choices == records && done.chosen == chosen && done.standings == records * STATES * FLAGS
-         && done.not_sound == records * NOT_SOUND, "not all was tried", 0);
+         && done.not_sound == records * NOT_SOUND && done.polls == polls
+         && done.polls + done.no_polls == records * 5 * (OTHER_VALUES + 1), "not all was tried", 0);
     printf("saves: %lu loops with %lu frames through a file of %lu bytes in all; refused with 10: %lu cut, %lu longer, "
            "%lu with another byte in a head, %lu with another count, %lu of no edition; %lu old saves opened and one "
            "from a file, END chosen for %lu devices in all; refused with 2: %lu old saves with a byte 19, %lu with a "
-           "byte 17 or 18 out of range; %lu opened with these in range\n", loops, done.frames, done.bytes, done.cuts,
-           done.longer, done.heads, done.counts, done.editions, loops, done.chosen, done.choices, done.not_sound,
-           done.standings);
+           "byte 17 or 18 out of range, %lu with a byte 7 or 20 to 23 so; %lu and %lu opened with these in range\n",
+           loops, done.frames, done.bytes, done.cuts, done.longer, done.heads, done.counts, done.editions, loops,
+           done.chosen, done.choices, done.not_sound, done.no_polls, done.standings, done.polls);
     return 0;
 }

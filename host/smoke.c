@@ -1,6 +1,6 @@
 /* Runs the rows of 01 and 02, 01's cases at the limits, the choices of a load, remote and local, clears and triggers,
-   hops owed, a saved loop, as it is saved now and as it was before, and codes of 001's message table through libpil.a,
-   called as a bench calls it. Prints each check that fails and exits 1, or how many held. */
+   parallel polls, hops owed, a saved loop, as it is saved now and as it was before, and codes of 001's message table
+   through libpil.a, called as a bench calls it. Prints each check that fails and exits 1, or how many held. */
 #include "pil.h"
 
 #include <stdio.h>
@@ -309,6 +309,250 @@ static void event_stop_cases(void)
     drains("DCL behind a byte", loop, sizeof loop, 9, (struct pil_drained){1, 0, PIL_STOP_EVENT, 1, 1, 0});
 }
 
+/* Parallel poll (02, f; 001, 2.12 and note 5 of its message table). */
+
+/* One device with all abilities, the poll among them, at 5 and a listener. */
+static void polled_at_5(void)
+{
+    static const uint8_t item[PIL_POLL_ITEM_LENGTH] = {0xff, 5, [PIL_ITEM_MORE] = PIL_MORE_POLL};
+
+    check("set-up of 13 bytes", pil_set_up(area, sizeof area, item, sizeof item), PIL_ACCEPTED);
+    check("power-on, further abilities", record[PIL_RECORD_MORE], PIL_MORE_POLL);
+    check("power-on, not told", record[PIL_RECORD_POLL], PIL_POLL_NONE);
+    check("power-on, poll status", record[PIL_RECORD_POLL_STATUS], 0);
+    check("425 at 5", sends(0x425), 0x425);
+    check("listener", record[PIL_RECORD_LISTENER], 1);
+}
+
+static void states(uint64_t status, unsigned expected)
+{
+    check("poll status", pil_poll_status(area, sizeof area, 0, status), PIL_ACCEPTED);
+    check("poll status, stored", record[PIL_RECORD_POLL_STATUS], expected);
+}
+
+/* An IDY at a device told by this PPE. In 001's 5.5 PPE 13 names bit 3; by note 5 it is D6. */
+static const struct {
+    unsigned ppe, status, in, out;
+} answers[] = {
+    {0x480, 0, 0x600, 0x601}, {0x480, 1, 0x600, 0x600}, {0x480, 0, 0x601, 0x601}, {0x480, 1, 0x601, 0x601},
+    {0x488, 0, 0x600, 0x600}, {0x488, 1, 0x600, 0x601}, {0x488, 0, 0x601, 0x601}, {0x488, 1, 0x601, 0x601},
+    {0x481, 0, 0x600, 0x602}, {0x482, 0, 0x6fb, 0x6ff}, {0x483, 0, 0x700, 0x708}, {0x484, 0, 0x7ef, 0x7ff},
+    {0x48d, 0, 0x600, 0x600}, {0x48d, 1, 0x600, 0x620}, {0x48d, 1, 0x7df, 0x7ff}, {0x48d, 0, 0x620, 0x620},
+    {0x487, 0, 0x600, 0x680}, {0x487, 1, 0x67f, 0x67f}, {0x48f, 1, 0x600, 0x680}, {0x48f, 0, 0x77f, 0x77f},
+};
+
+static void answer_rows(void)
+{
+    for (unsigned i = 0; i < sizeof answers / sizeof *answers; i++) {
+        polled_at_5();
+        check("PPE", sends(answers[i].ppe), answers[i].ppe);
+        check("PPE kept", record[PIL_RECORD_POLL], 16 + (answers[i].ppe & 0xf));
+        states(answers[i].status, answers[i].status);
+        check("IDY answered", sends(answers[i].in), answers[i].out);
+        check("wish", pil_wish(area, sizeof area, 0, 1), PIL_ACCEPTED);
+        check("IDY answered and service asked for", sends(answers[i].in), answers[i].out | PIL_C1);
+    }
+}
+
+/* What a command makes of byte 22 where PPE 13 was told, as a listener and as none; the status stays. */
+static const struct {
+    const char *what;
+    unsigned frame;
+    uint8_t listener, other;
+} tellings[] = {
+    {"PPE 13 at PPE 13", 0x48d, 29, 29}, {"PPE 0", 0x480, 16, 29}, {"PPE 15", 0x48f, 31, 29}, {"PPD", 0x405, 0, 29},
+    {"PPU", 0x415, 0, 0}, {"IFC", 0x490, 29, 29}, {"DCL", 0x414, 29, 29}, {"SDC", 0x404, 29, 29},
+    {"UNL", 0x43f, 29, 29}, {"own TAD", 0x445, 29, 29}, {"AAU", 0x49a, 29, 29}, {"NRE", 0x493, 29, 29},
+    {"47f, no message", 0x47f, 29, 29}, {"DDL 13", 0x4ad, 29, 29}, {"IDY", 0x600, 29, 29},
+};
+
+static void telling_rows(void)
+{
+    for (unsigned i = 0; i < sizeof tellings / sizeof *tellings; i++)
+        for (unsigned listener = 0; listener < 2; listener++)
+            for (unsigned status = 0; status < 2; status++) {
+                polled_at_5();
+                check("PPE 13", sends(0x48d), 0x48d);
+                record[PIL_RECORD_LISTENER] = (uint8_t)listener;
+                states(status, status);
+                sends(tellings[i].frame);
+                check(tellings[i].what, record[PIL_RECORD_POLL], listener ? tellings[i].listener : tellings[i].other);
+                check(tellings[i].what, record[PIL_RECORD_POLL_STATUS], status);
+                check(tellings[i].what, record[PIL_RECORD_MORE], PIL_MORE_POLL);
+            }
+}
+
+/* Without the ability PPE tells nothing, and IDYs go on; with it PPE tells nothing to a device that is no listener. */
+static void untold_cases(void)
+{
+    at_5();
+    check("LAD, no poll", sends(0x425), 0x425);
+    check("PPE, no poll", sends(0x480), 0x480);
+    check("PPE, no poll, not told", record[PIL_RECORD_POLL], PIL_POLL_NONE);
+    check("PPD, no poll", sends(0x405), 0x405);
+    check("PPU, no poll", sends(0x415), 0x415);
+    check("IDY, no poll", sends(0x600), 0x600);
+    polled_at_5();
+    check("IDY, not told", sends(0x600), 0x600);
+    states(1, 1);
+    check("IDY, not told, yes", sends(0x600), 0x600);
+    check("UNL", sends(0x43f), 0x43f);
+    check("PPE, no listener", sends(0x488), 0x488);
+    check("PPE, no listener, not told", record[PIL_RECORD_POLL], PIL_POLL_NONE);
+}
+
+/* Any number but 0 is yes. */
+static void poll_status_cases(void)
+{
+    static const uint64_t yes[] = {1, 2, 255, 256, 65536, (uint64_t)1 << 32, (uint64_t)1 << 63, UINT64_MAX};
+    static uint8_t before[sizeof area];
+
+    polled_at_5();
+    for (unsigned i = 0; i < sizeof yes / sizeof *yes; i++) {
+        states(yes[i], 1);
+        states(yes[i], 1);
+        states(0, 0);
+    }
+    memcpy(before, area, sizeof area);
+    check("poll status, a wrong length", pil_poll_status(area, sizeof area - 1, 0, 1), PIL_SHAPE);
+    check("poll status, a wrong length and device 1", pil_poll_status(area, sizeof area - 1, 1, 1), PIL_SHAPE);
+    check("poll status, device 1", pil_poll_status(area, sizeof area, 1, 1), PIL_NO_DEVICE);
+    check("poll status, device 256", pil_poll_status(area, sizeof area, 256, 1), PIL_NO_DEVICE);
+    check("poll status, device 2^32", pil_poll_status(area, sizeof area, (uint64_t)1 << 32, 1), PIL_NO_DEVICE);
+    check("poll status refused, the area", memcmp(area, before, sizeof area), 0);
+    record[PIL_RECORD_MORE] = 0;
+    check("poll status without the ability", pil_poll_status(area, sizeof area, 0, 1), PIL_NO_ABILITY);
+    check("poll status 0 without the ability", pil_poll_status(area, sizeof area, 0, 0), PIL_NO_ABILITY);
+    check("poll status without the ability, device 1", pil_poll_status(area, sizeof area, 1, 1), PIL_NO_DEVICE);
+    record[PIL_RECORD_POLL] = 16;
+    check("poll status, told without the ability", pil_poll_status(area, sizeof area, 0, 1), PIL_UNSOUND);
+    check("poll status, told without the ability, device 1", pil_poll_status(area, sizeof area, 1, 1), PIL_UNSOUND);
+}
+
+/* One byte of a record of power-on made another: a hop is refused with 2, or with 5 for want of a frame. */
+static void judged(const char *what, unsigned more, unsigned place, unsigned value, unsigned refusal)
+{
+    polled_at_5();
+    record[PIL_RECORD_MORE] = (uint8_t)more;
+    record[place] = (uint8_t)value;
+    check(what, pil_hop(area, sizeof area, 0).refusal, refusal);
+}
+
+static void poll_soundness(void)
+{
+    judged("no further abilities", 1, PIL_RECORD_MORE, 0, PIL_EMPTY);
+    judged("further abilities 2", 1, PIL_RECORD_MORE, 2, PIL_UNSOUND);
+    judged("further abilities 3", 1, PIL_RECORD_MORE, 3, PIL_UNSOUND);
+    judged("byte 20", 1, PIL_RECORD_ZEROS, 1, PIL_UNSOUND);
+    judged("byte 21", 1, PIL_RECORD_ZEROS + 1, 1, PIL_UNSOUND);
+    judged("told 1", 1, PIL_RECORD_POLL, 1, PIL_UNSOUND);
+    judged("told 15", 1, PIL_RECORD_POLL, 15, PIL_UNSOUND);
+    judged("told 16", 1, PIL_RECORD_POLL, 16, PIL_EMPTY);
+    judged("told 31", 1, PIL_RECORD_POLL, 31, PIL_EMPTY);
+    judged("told 32", 1, PIL_RECORD_POLL, 32, PIL_UNSOUND);
+    judged("told 16 without the ability", 0, PIL_RECORD_POLL, 16, PIL_UNSOUND);
+    judged("poll status 1", 1, PIL_RECORD_POLL_STATUS, 1, PIL_EMPTY);
+    judged("poll status 2", 1, PIL_RECORD_POLL_STATUS, 2, PIL_UNSOUND);
+    judged("poll status 1 without the ability", 0, PIL_RECORD_POLL_STATUS, 1, PIL_UNSOUND);
+    judged("the poll and no other ability", 1, PIL_RECORD_ABILITIES, 0, PIL_UNSOUND); /* it is a listener */
+    record[PIL_RECORD_LISTENER] = 0;
+    check("the poll and no other ability, no listener", pil_hop(area, sizeof area, 0).refusal, PIL_EMPTY);
+    states(1, 1);
+}
+
+/* The area's length says how many devices there are: 156 bytes are 12 items of 13 bytes, and 13 items of 12. */
+static void item_cases(void)
+{
+    static uint8_t loop[PIL_AREA_LENGTH(13)];
+    uint8_t items[14 * 13] = {0};
+
+    for (unsigned length = 0; length <= 40; length++) {
+        int one = length == 12 || length == 13, two = length == 24 || length == 26;
+
+        check("items of one", pil_set_up(loop, PIL_AREA_LENGTH(1), items, length), one ? PIL_ACCEPTED : PIL_SHAPE);
+        check("items of two", pil_set_up(loop, PIL_AREA_LENGTH(2), items, length), two ? PIL_ACCEPTED : PIL_SHAPE);
+    }
+    items[PIL_POLL_ITEM_AT(11) + PIL_ITEM_MORE] = 1;
+    check("12 items of 13", pil_set_up(loop, PIL_AREA_LENGTH(12), items, 156), PIL_ACCEPTED);
+    check("12 items of 13, the last", loop[PIL_RECORD_AT(11) + PIL_RECORD_MORE], 1);
+    check("12 items of 13, the first", loop[PIL_RECORD_AT(0) + PIL_RECORD_MORE], 0);
+    items[PIL_POLL_ITEM_AT(11) + PIL_ITEM_MORE] = 2;
+    check("12 items of 13, a last byte of 2", pil_set_up(loop, PIL_AREA_LENGTH(12), items, 156), PIL_UNSOUND);
+    check("13 items of 12, ID not zero", pil_set_up(loop, PIL_AREA_LENGTH(13), items, 156), PIL_UNSOUND);
+    items[PIL_POLL_ITEM_AT(11) + PIL_ITEM_MORE] = 0;
+    check("13 items of 12", pil_set_up(loop, PIL_AREA_LENGTH(13), items, 156), PIL_ACCEPTED);
+    check("13 items of 12, the last", loop[PIL_RECORD_AT(12) + PIL_RECORD_MORE], 0);
+    check("13 items of 14", pil_set_up(loop, PIL_AREA_LENGTH(13), items, 14 * 13), PIL_SHAPE);
+    items[PIL_ITEM_MORE] = 255;
+    check("a last byte of 255", pil_set_up(loop, PIL_AREA_LENGTH(1), items, 13), PIL_UNSOUND);
+}
+
+enum { RACK = 3, RACK_BIT = 2 };
+
+/* Puts the frame, lets all three hop and takes it. */
+static unsigned round_of(uint8_t *rack, unsigned frame)
+{
+    check("put", pil_put(rack, PIL_AREA_LENGTH(RACK), frame), PIL_ACCEPTED);
+    check("drain", pil_drain(rack, PIL_AREA_LENGTH(RACK), RACK).hops, RACK);
+    return pil_take(rack, PIL_AREA_LENGTH(RACK)).frame;
+}
+
+/* Three devices share a bit: with sense 1 it is the OR of their statuses, with sense 0 it is zero just at their AND. */
+static void rack_cases(void)
+{
+    static uint8_t rack[PIL_AREA_LENGTH(RACK)];
+    uint8_t items[PIL_POLL_ITEMS_LENGTH(RACK)] = {0};
+
+    for (unsigned i = 0; i < RACK; i++) {
+        items[PIL_POLL_ITEM_AT(i) + PIL_ITEM_ABILITIES] = PIL_ABILITY_LISTEN;
+        items[PIL_POLL_ITEM_AT(i) + PIL_ITEM_FIXED] = (uint8_t)i;
+        items[PIL_POLL_ITEM_AT(i) + PIL_ITEM_MORE] = PIL_MORE_POLL;
+    }
+    check("set-up of the rack", pil_set_up(rack, sizeof rack, items, sizeof items), PIL_ACCEPTED);
+    for (unsigned i = 0; i < RACK; i++)
+        check("LAD", round_of(rack, 0x420 + i), 0x420 + i);
+    for (unsigned statuses = 0; statuses < 1 << RACK; statuses++) {
+        for (unsigned i = 0; i < RACK; i++)
+            check("poll status", pil_poll_status(rack, sizeof rack, i, statuses & 1u << i), PIL_ACCEPTED);
+        round_of(rack, 0x488 + RACK_BIT);
+        check("sense 1, OR", round_of(rack, 0x600), statuses != 0 ? 0x604 : 0x600);
+        round_of(rack, 0x480 + RACK_BIT);
+        check("sense 0, AND", round_of(rack, 0x600), statuses != 7 ? 0x604 : 0x600);
+        check("a bit put", round_of(rack, 0x685), 0x685);
+    }
+    check("PPU", round_of(rack, 0x415), 0x415);
+    check("IDY after PPU", round_of(rack, 0x600), 0x600);
+}
+
+static void counts(const char *what, uint64_t frame, unsigned refusal, unsigned ones, unsigned lowest)
+{
+    struct pil_polled polled = pil_poll_count(frame);
+
+    check(what, polled.refusal, refusal);
+    check(what, polled.ones, ones);
+    check(what, polled.lowest, lowest);
+}
+
+static void count_cases(void)
+{
+    counts("count 600", 0x600, PIL_ACCEPTED, 0, PIL_NO_BIT);
+    counts("count 700", 0x700, PIL_ACCEPTED, 0, PIL_NO_BIT);
+    counts("count 601", 0x601, PIL_ACCEPTED, 1, 0);
+    counts("count 620", 0x620, PIL_ACCEPTED, 1, 5);
+    counts("count 680", 0x680, PIL_ACCEPTED, 1, 7);
+    counts("count 780", 0x780, PIL_ACCEPTED, 1, 7);
+    counts("count 6a4", 0x6a4, PIL_ACCEPTED, 3, 2);
+    counts("count 7fe", 0x7fe, PIL_ACCEPTED, 7, 1);
+    counts("count 7ff", 0x7ff, PIL_ACCEPTED, 8, 0);
+    counts("count 0", 0, PIL_BAD_FRAME, 0, 0);
+    counts("count 48d", 0x48d, PIL_BAD_FRAME, 0, 0);
+    counts("count 5ff", 0x5ff, PIL_BAD_FRAME, 0, 0);
+    counts("count 800", 0x800, PIL_BAD_FRAME, 0, 0);
+    counts("count 2^16 + 601", 0x10601, PIL_BAD_FRAME, 0, 0);
+    counts("count 2^32 + 601", ((uint64_t)1 << 32) + 0x601, PIL_BAD_FRAME, 0, 0);
+    counts("count 2^64 - 1", UINT64_MAX, PIL_BAD_FRAME, 0, 0);
+}
+
 static void limits(void)
 {
     static uint8_t longest[PIL_AREA_LENGTH(PIL_MOST_DEVICES + 1)], bytes[PIL_MOST_DATA + 1];
@@ -359,7 +603,7 @@ static void owed_cases(void)
     owes("owed, a take", loop, sizeof loop, PIL_ACCEPTED, most);
     fresh();
     owes("owed, a wrong length", area, sizeof area - 1, PIL_SHAPE, 0);
-    record[PIL_RECORD_ZERO] = 1;
+    record[PIL_RECORD_ZEROS] = 1;
     owes("owed, a damaged byte", area, sizeof area, PIL_UNSOUND, 0);
 }
 
@@ -397,7 +641,7 @@ static void save_cases(void)
     check("save", pil_save(area, sizeof area, save, 116), PIL_ACCEPTED);
     check("save, its bytes", memcmp(save, expected_save, 116), 0);
     check("save, the byte behind it", save[116], 0);
-    record[PIL_RECORD_ZERO] = 1;
+    record[PIL_RECORD_ZEROS] = 1;
     check("save, a damaged byte", pil_save(area, sizeof area, save, 116), PIL_UNSOUND);
     check("save, a damaged byte and an output too short", pil_save(area, sizeof area, save, 115), PIL_SHAPE);
 }
@@ -437,6 +681,9 @@ static void open_cases(void)
     check("open, choice 2", opens_with(14 + 6 + 19, 2, sizeof area, 116), PIL_UNSOUND);
     check("open, state 4 of remote and local", opens_with(14 + 6 + 17, 4, sizeof area, 116), PIL_UNSOUND);
     check("open, enabled 2", opens_with(14 + 6 + 18, 2, sizeof area, 116), PIL_UNSOUND);
+    check("open, further abilities 2", opens_with(14 + 6 + 7, 2, sizeof area, 116), PIL_UNSOUND);
+    check("open, told without the ability", opens_with(14 + 6 + 22, 16, sizeof area, 116), PIL_UNSOUND);
+    check("open, poll status without the ability", opens_with(14 + 6 + 23, 1, sizeof area, 116), PIL_UNSOUND);
     check("open, an old save with a byte 19", opens_with(PIL_SAVE_EDITION, 0, sizeof area, 116), PIL_UNSOUND);
     check("open, a listener over 1", opens_with(14 + 6 + 4, 2, sizeof area, 116), PIL_UNSOUND);
     check("open refused, the area", memcmp(area, fresh_area, sizeof area), 0);
@@ -532,6 +779,14 @@ int main(void)
     key_refusals();
     event_cases();
     event_stop_cases();
+    answer_rows();
+    telling_rows();
+    untold_cases();
+    poll_status_cases();
+    poll_soundness();
+    item_cases();
+    rack_cases();
+    count_cases();
     limits();
     owed_cases();
     save_cases();

@@ -14,6 +14,11 @@ enum {
     ROW = 32,    /* bytes of paint looked for at a time */
     COPY = 16,   /* so many bytes of an ID or data in a row are a copy */
     ADDRESS = 5,
+    PPD = 0x405,
+    PPU = 0x415,
+    FIRST_PPE = 0x480,
+    LAST_PPE = 0x48f,
+    FIRST_IDY = 0x600,
     HOPPER = LOOP_DEVICES - 1 /* the device that hops */
 };
 
@@ -187,14 +192,31 @@ static int leave(uint8_t *r, unsigned left)
     return r[PIL_RECORD_TALKER] == PIL_TALKER_ADDRESSED || r[PIL_RECORD_TALKER] == PIL_TALKER_DATA;
 }
 
-/* What only some frames find, by what is left of the number; gives 0 if there is more of it. A command finds remote and
-   local, a data byte in a sending device NRD and the byte sent last. */
+/* Whether the device answers polls, and how: not at all, or to say a yes or a no by a one. */
+static void make_poll(uint8_t *r, unsigned *number)
+{
+    static const uint8_t polls[] = {PIL_POLL_NONE, PIL_POLL_CONFIGURED + PIL_POLL_SENSE, PIL_POLL_CONFIGURED};
+
+    r[PIL_RECORD_POLL] = polls[digit(number, sizeof polls)];
+    r[PIL_RECORD_POLL_STATUS] = (uint8_t)digit(number, 2);
+}
+
+/* PPD, PPU, a PPE or an IDY. */
+static int is_of_polls(unsigned frame)
+{
+    return frame == PPD || frame == PPU || (frame >= FIRST_PPE && frame <= LAST_PPE) || frame >= FIRST_IDY;
+}
+
+/* What only some frames find, by what is left of the number; gives 0 if there is more of it. A frame of polls finds how
+   these are answered, another command remote and local, a data byte in a sending device NRD and the byte sent last. */
 static int make_found(uint8_t *r, unsigned number, unsigned frame)
 {
     static const unsigned others[] = {0, 1, PIL_C2};
     unsigned last;
 
-    if (frame >= PIL_C3 && frame < PIL_C3 + PIL_C1) {
+    if (is_of_polls(frame)) {
+        make_poll(r, &number);
+    } else if (frame >= PIL_C3 && frame < PIL_C3 + PIL_C1) {
         r[PIL_RECORD_REMOTE] = (uint8_t)digit(&number, PIL_REMOTE_LOCKED + 1);
         r[PIL_RECORD_ENABLED] = (uint8_t)digit(&number, 2);
     } else if (frame < PIL_C3 && r[PIL_RECORD_TALKER] >= PIL_TALKER_DATA) {

@@ -26,9 +26,12 @@ mostDevices = 31
 abbrev pub isCount : ℕ → ℕ → Bool
 isCount limit n = leb 1 n && leb n limit
 
--- bytes of a set-up item
+-- bytes of a set-up item, and of one with the further abilities behind (02, f)
 abbrev pub itemSize : ℕ
 itemSize = 12
+
+abbrev pub longItemSize : ℕ
+longItemSize = 13
 
 -- where record i starts, and link j in an area of n devices
 abbrev pub recordAt : ℕ → ℕ

@@ -2,13 +2,13 @@
 use mathlib.Core.Path.{refl, sym, _∙_}
 use mathlib.Core.Bool.{Bool, true, false, cond}
 use Rattle.device.specs.Device.{isChoice}
-use Rattle.keeps.proofs.Keeps.{load-good, status-good, wish-good, key-good}
+use Rattle.keeps.proofs.Keeps.{load-good, status-good, wish-good, key-good, poll-status-good}
 use Rattle.area.proofs.Areas.{holds-of}
 use Rattle.calls.specs.Outcome.{refuse, loopAfter}
 use Rattle.calls.specs.Calls.{localIn, loadIn}
 use Rattle.calls.specs.Laws.{Unique, CallOnLoop, Kept, AreaAfter, LoadKeeps, StatusKeeps, WishKeeps}
-use Rattle.calls.specs.Laws.{KeyKeeps}
-use Rattle.record_local.specs.Local.{loads, setsStatus, wishes, presses}
+use Rattle.calls.specs.Laws.{KeyKeeps, PollStatusKeeps}
+use Rattle.record_local.specs.Local.{loads, setsStatus, wishes, presses, setsPollStatus}
 use Rattle.area.specs.Loop.{unsound}
 use Rattle.calls.proofs.Outcomes.{call-done}
 use Rattle.calls.proofs.Kept.{local-keeps}
@@ -41,3 +41,6 @@ wish-keeps i w = local-keeps (λ d. wishes d w) (λ d g. wish-good d w g) i
 
 pub key-keeps : KeyKeeps
 key-keeps i = local-keeps presses key-good i
+
+pub poll-status-keeps : PollStatusKeeps
+poll-status-keeps i s = local-keeps (λ d. setsPollStatus d s) (λ d g. poll-status-good d s g) i

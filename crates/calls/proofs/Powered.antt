@@ -2,21 +2,23 @@
 -- left.
 use mathlib.Core.Path.{_≡_, refl, sym, ap, _∙_}
 use mathlib.Core.List.{List, [], _∷_, _++_, append-nil}
-use mathlib.Core.Bool.{true, false}
+use mathlib.Core.Bool.{Bool, true, false, cond, _||_}
+use mathlib.Core.Logic.{_⊎_, inl, inr, ⊎-elim}
 use Prim.Native.Nat.{ℕ, zero, suc, _+_, _-_, _*_, _≤_, _<_}
-use native.Mathlib.Nat.{not-suc-le-zero, le-of-suc-le-suc}
+use native.Mathlib.Nat.{not-suc-le-zero, le-of-suc-le-suc, mul-suc, mul-le-mul-left, mul-le-mul-right}
 use native.Mathlib.Omega.{arith}
+use lib.Dec.{eqb}
 use lib.ListN.{length, getD, take, set, replicate, length-map, length-append, length-replicate, List·getD-map}
 use lib.Seq.{length-take-le, take-all}
 use borrow.Author.Tests.{leb-true, eqb-true}
 use Rattle.device.specs.PowerOn.{powerOn, bytesFrom}
 use Rattle.device.specs.declared.Device.{Device}
 use Rattle.record.specs.Record.{deviceOf}
-use Rattle.record.specs.Sound.{allowed}
+use Rattle.record.specs.Sound.{soundDevice, allowed}
 use Rattle.record.specs.Fits.{Bytes, Good}
 use Rattle.record.proofs.Both.{left, right}
 use Rattle.record.proofs.Laws.{power-good, blank-good}
-use Rattle.area.specs.Sizes.{mostDevices, itemSize, areaSize}
+use Rattle.area.specs.Sizes.{mostDevices, itemSize, longItemSize, areaSize}
 use Rattle.area.specs.Parts.{part, all}
 use Rattle.area.specs.Link.{Frames}
 use Rattle.area.specs.Loop.{Loop, areaOf, size, shape, unsound}
@@ -25,7 +27,8 @@ use Rattle.area.proofs.Parts.{length-parts, getD-parts}
 use Rattle.area.proofs.Each.{each-part, each-same}
 use Rattle.area.proofs.Areas.{no-frames}
 use Rattle.calls.specs.Outcome.{after}
-use Rattle.calls.specs.SetUp.{itemsOf, itemsFit, poweredOn, setUpOf, setUpWith, devicesFor}
+use Rattle.calls.specs.SetUp.{isItems, itemWidth, itemsOf, itemsFit, poweredOn, setUpOf, setUpWith}
+use Rattle.calls.specs.SetUp.{devicesFor}
 use Rattle.calls.specs.Inner.{Fit}
 use Rattle.calls.specs.Laws.{SetUpSound}
 
@@ -57,6 +60,15 @@ blank-powered : powerOn [] ≡ deviceOf []
 unfolding powerOn deviceOf bytesFrom
 blank-powered = refl
 
+-- zeros behind an item change nothing of its device
+pub padded-powered : (b : List ℕ) → powerOn (bytesFrom 0 longItemSize b) ≡ powerOn b
+unfolding powerOn bytesFrom
+padded-powered b = refl
+
+pub padded-allowed : (b : List ℕ) → allowed (bytesFrom 0 longItemSize b) ≡ allowed b
+unfolding allowed
+padded-allowed b = ap soundDevice (padded-powered b)
+
 -- the loop of n items after i of them
 module _ (n : ℕ) (items : List ℕ) where
   abbrev pub devices : List Device
@@ -68,15 +80,19 @@ module _ (n : ℕ) (items : List ℕ) where
   pub devices-long : length devices ≡ n
   devices-long = simp (length-map, length-parts)
 
-  item-device : (i : ℕ) → i < n → powerOn (part (itemSize * i) itemSize items) ≡ getD devices i (deviceOf [])
+  -- bytes of an item
+  abbrev w : ℕ
+  w = itemWidth (length items) n
+
+  item-device : (i : ℕ) → i < n → powerOn (part (w * i) w items) ≡ getD devices i (deviceOf [])
   item-device i h = rw (← blank-powered)
-      (sym (List·getD-map powerOn (itemsOf n items) i [] ∙ ap powerOn (getD-parts itemSize n items i h)))
+      (sym (List·getD-map powerOn (itemsOf n items) i [] ∙ ap powerOn (getD-parts w n items i h)))
 
   pub first-item : blankOf n ≡ at-item 0
   first-item = let e : n - 0 ≡ n = omega arith in rw (devices-long, e)
 
   pub next-item : (i : ℕ) → i < n →
-      setDevice i (powerOn (part (itemSize * i) itemSize items)) (at-item i) ≡ at-item (suc i)
+      setDevice i (powerOn (part (w * i) w items)) (at-item i) ≡ at-item (suc i)
   next-item i h =
       rw (item-device i h)
       (ap (λ (ds : List Device). record { devices = ds; links = poweredOn n items .links })
@@ -91,11 +107,46 @@ module _ (n : ℕ) (items : List ℕ) where
 
   -- each device is good
   pub powered-good : Bytes items → all allowed (itemsOf n items) ≡ true → (i : ℕ) → Good (getD devices i (deviceOf []))
-  powered-good small h = each-part Good (deviceOf []) powerOn allowed itemSize power-good blank-good n items small h
+  powered-good small h = each-part Good (deviceOf []) powerOn allowed w power-good blank-good n items small h
 
   pub item-good : Bytes items → all allowed (itemsOf n items) ≡ true → (i : ℕ) → i < n →
-      Good (powerOn (part (itemSize * i) itemSize items))
+      Good (powerOn (part (w * i) w items))
   item-good small h i k = rw (item-device i k) (powered-good small h i)
+
+-- an item is 12 bytes or 13, and then so are all
+pub width-either : (bytes n : ℕ) → (itemWidth bytes n ≡ itemSize) ⊎ (itemWidth bytes n ≡ longItemSize)
+unfolding itemWidth
+width-either bytes n = go (eqb bytes (longItemSize * n))
+  where
+    go : (b : Bool) → (cond b longItemSize itemSize ≡ itemSize) ⊎ (cond b longItemSize itemSize ≡ longItemSize)
+    go true = inr refl
+    go false = inl refl
+
+pub width-few : (bytes n : ℕ) → itemWidth bytes n ≤ longItemSize
+width-few bytes n = ⊎-elim (λ e. omega arith) (λ e. omega arith) (width-either bytes n)
+
+pub width-times : (bytes n i : ℕ) → itemWidth bytes n * i ≤ longItemSize * i
+width-times bytes n i = mul-le-mul-right i (width-few bytes n)
+
+pub width-all : (bytes n : ℕ) → isItems bytes n ≡ true → bytes ≡ itemWidth bytes n * n
+unfolding itemWidth isItems
+width-all bytes n h = go (eqb bytes (itemSize * n)) (eqb bytes (longItemSize * n)) refl refl h
+  where
+    go : (a b : Bool) → eqb bytes (itemSize * n) ≡ a → eqb bytes (longItemSize * n) ≡ b → (a || b) ≡ true →
+        bytes ≡ cond b longItemSize itemSize * n
+    go a true e f i = eqb-true bytes (longItemSize * n) f
+    go true false e f i = eqb-true bytes (itemSize * n) e
+    go false false e f i = let z : false ≡ true = i in cc
+
+-- they are at least 12 bytes each
+pub items-least : (bytes n : ℕ) → isItems bytes n ≡ true → itemSize * n ≤ bytes
+items-least bytes n h =
+    let e = width-all bytes n h in
+    ⊎-elim (λ w. omega (arith, rw w at e)) (λ w. omega (arith, rw w at e)) (width-either bytes n)
+
+-- item i lies within
+pub item-within : (w i n : ℕ) → i < n → w * i + w ≤ w * n
+item-within w i n h = let m = mul-le-mul-left w h in let e = mul-suc w i in omega arith
 
 -- what the test of the lengths says
 pub items-fit : (limit n : ℕ) (a items : List ℕ) → itemsFit limit n a items ≡ true → Fit limit n a items
@@ -105,7 +156,7 @@ items-fit limit n a items h =
       some = leb-true 1 n (search (left, right));
       few = leb-true n limit (search (left, right));
       area = eqb-true (length a) (areaSize n) (search (left, right));
-      items = eqb-true (length items) (itemSize * n) (search (left, right));
+      items = search (left, right);
     }
 
 pub set-up-sound : SetUpSound

@@ -1,4 +1,4 @@
--- Put, take, hop and the local calls (01, The calls; 02, d and h), each on a loop and then on an area, with its
+-- Put, take, hop and the local calls (01, The calls; 02, d, f and h), each on a loop and then on an area, with its
 -- refusals in 01's order.
 use Prim.Native.Nat.{ℕ, suc}
 use mathlib.Core.List.{List}
@@ -8,7 +8,7 @@ use Rattle.frame.specs.Messages.{frames}
 use Rattle.frame.specs.Coding.{badFrame}
 use Rattle.device.specs.Device.{isChoice}
 use Rattle.device.specs.Take.{takes}
-use Rattle.record_local.specs.Local.{loads, setsStatus, wishes, presses}
+use Rattle.record_local.specs.Local.{loads, setsStatus, wishes, presses, setsPollStatus}
 use Rattle.device.specs.declared.Device.{Device}
 use Rattle.device.specs.declared.Handed.{Handed}
 use Rattle.device.specs.declared.Handed.the-variants as handed
@@ -153,3 +153,6 @@ wishOf a i w = callOf refusal (localIn (λ d. wishes d w) i) a
 
 abbrev pub keyOf : List ℕ → ℕ → After ℕ
 keyOf a i = callOf refusal (localIn presses i) a
+
+abbrev pub pollStatusOf : List ℕ → ℕ → ℕ → After ℕ
+pollStatusOf a i s = callOf refusal (localIn (λ d. setsPollStatus d s) i) a

@@ -3,7 +3,7 @@ use Prim.Native.Nat.{ℕ, _<_}
 use mathlib.Core.Path.{_≡_}
 use mathlib.Core.Bool.{true}
 use mathlib.Core.List.{List}
-use Rattle.record_local.specs.Local.{setsStatus, wishes, presses}
+use Rattle.record_local.specs.Local.{setsStatus, wishes, presses, setsPollStatus}
 use Rattle.record.specs.Fits.{Bytes}
 use Rattle.record.specs.Sound.{allowed}
 use Rattle.area.specs.Parts.{all}
@@ -59,6 +59,9 @@ WishKeeps = (i w : ℕ) → Keeps (localIn (λ d. wishes d w) i)
 
 abbrev pub KeyKeeps : Type 0
 KeyKeeps = (i : ℕ) → Keeps (localIn presses i)
+
+abbrev pub PollStatusKeeps : Type 0
+PollStatusKeeps = (i s : ℕ) → Keeps (localIn (λ d. setsPollStatus d s) i)
 
 abbrev pub DrainKeeps : Type 0
 DrainKeeps = (b : ℕ) → Keeps (drainIn b)

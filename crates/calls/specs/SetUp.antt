@@ -1,13 +1,13 @@
--- Set up (01, The calls): an item for each device, and an area of the length for them, whatever it holds.
+-- Set up (01, The calls; 02, f): an item for each device, and an area of the length for them, whatever it holds.
 use Prim.Native.Nat.{ℕ, suc, _+_, _-_, _*_, _/_}
 use mathlib.Core.List.{List, [], map}
-use mathlib.Core.Bool.{Bool, cond, _&&_}
+use mathlib.Core.Bool.{Bool, cond, _&&_, _||_}
 use lib.ListN.{length, replicate}
 use lib.Dec.{eqb}
 use Rattle.device.specs.PowerOn.{powerOn}
 use Rattle.record.specs.Record.{recordSize}
 use Rattle.record.specs.Sound.{allowed}
-use Rattle.area.specs.Sizes.{linkSize, mostDevices, isCount, itemSize, areaSize}
+use Rattle.area.specs.Sizes.{linkSize, mostDevices, isCount, itemSize, longItemSize, areaSize}
 use Rattle.area.specs.Parts.{parts, all}
 use Rattle.area.specs.Loop.{Loop, areaOf, shape, unsound}
 use Rattle.calls.specs.Outcome.{After, after}
@@ -16,14 +16,21 @@ use Rattle.calls.specs.Outcome.{After, after}
 abbrev pub devicesFor : ℕ → ℕ
 devicesFor size = (size - areaSize 0) / (recordSize + linkSize)
 
+-- so many bytes are n items, all of 12 bytes or all of 13
+unfoldable pub isItems : (bytes n : ℕ) → Bool
+isItems bytes n = eqb bytes (itemSize * n) || eqb bytes (longItemSize * n)
+
+-- how long each of them then is
+unfoldable pub itemWidth : (bytes n : ℕ) → ℕ
+itemWidth bytes n = cond (eqb bytes (longItemSize * n)) longItemSize itemSize
+
 -- the items, one for each of n devices
 abbrev pub itemsOf : ℕ → List ℕ → List (List ℕ)
-itemsOf n items = parts itemSize n items
+itemsOf n items = parts (itemWidth (length items) n) n items
 
 -- the area's length is that of n devices, at most so many, and there is an item for each
 unfoldable pub itemsFit : ℕ → ℕ → List ℕ → List ℕ → Bool
-itemsFit limit n a items =
-    isCount limit n && (eqb (length a) (areaSize n) && eqb (length items) (itemSize * n))
+itemsFit limit n a items = isCount limit n && (eqb (length a) (areaSize n) && isItems (length items) n)
 
 -- power-on devices and empty links
 abbrev pub poweredOn : ℕ → List ℕ → Loop

@@ -1,8 +1,11 @@
-// Commands (01, What a device does with a frame; 02, d): each goes on unchanged, with the state after it and the clear
-// or trigger that it is.
+// Commands (01, What a device does with a frame; 02, d and f): each goes on unchanged, with the state after it and the
+// clear or trigger that it is.
 use device::Device;
 use device::Handed;
 use frame::Kind;
+use poll::ppd;
+use poll::ppe;
+use poll::ppu;
 use record::FIXED;
 use record::read::has;
 use record::read::talks;
@@ -105,6 +108,9 @@ pub fn command(state: State, rec: &[u8], frame: u16) -> Passed
         Kind::Nre => sends(nre(state), frame),
         Kind::Llo => sends(llo(state), frame),
         Kind::Gtl => sends(gtl(state), frame),
+        Kind::Ppe => sends(ppe(state, rec, frame::offset_of(Kind::Ppe, frame)), frame),
+        Kind::Ppd => sends(ppd(state), frame),
+        Kind::Ppu => sends(ppu(state), frame),
         _ => sends(state, frame),
     }
 }

@@ -1,11 +1,13 @@
-// Data or end, and identify (01, What a device does with a frame; 02, b and g).
+// Data or end, and identify (01, What a device does with a frame; 02, b, f and g).
 use device::Device;
 use device::Handed;
 use frame::END;
 use frame::IDY;
 use frame::Message;
 use frame::data_of;
+use frame::idy_of;
 use frame::with_c1;
+use poll::answer;
 use reply::ETE;
 use reply::ETO;
 use reply::continues;
@@ -89,11 +91,12 @@ pub fn data_or_end(state: State, rec: &[u8], frame: u16) -> Passed
     heard(state, frame)
 }
 
-// IDY goes on in every state.
-pub fn identify(state: State, frame: u16) -> Passed
-    requires { ⌜ IsIdentify frame ⌝ }
-    ensures { λ r. ⌜ ((d : Device) → sentWith d r ≡ takes (with d state) frame) ⌝ }
+// IDY goes on in every state, with the device's answer to the poll.
+pub fn identify(state: State, rec: &[u8], frame: u16) -> Passed
+    requires { ⌜ (length (now rec) ≡ recordSize) × IsIdentify frame ⌝ }
+    ensures { λ r. ⌜ sentFrom (now (rec .entry)) r ≡ takes (inRecord (now (rec .entry)) state) frame ⌝ }
 {
     let came = with_c1(IDY, frame);
-    sends(state, marked(state, frame, came.c1))
+    let answered = idy_of(came.offset | answer(state, rec), came.c1);
+    sends(state, marked(state, answered, came.c1))
 }

@@ -33,7 +33,7 @@ use Rattle.order.specs.Flat.{Flat, putFlat, hopFlat}
 use Rattle.order.specs.Flat.{takeFrom as takeFromFlat, takeFlat, callFlat}
 use Rattle.order.specs.History.{listed}
 use Rattle.order.proofs.Flat.{there, gone}
-use Rattle.demands.specs.Calls.{Byte, numbers, Local, load, status, wish, key, calledBy, localBy}
+use Rattle.demands.specs.Calls.{Byte, numbers, Local, load, status, wish, key, pollStatus, calledBy, localBy}
 use Rattle.demands.specs.Histories.{Got, hopTells, handedOver, acceptedBy, papers}
 use Rattle.demands.proofs.Refusals.{Told, no, yes}
 use Rattle.demands.proofs.Tests.{load-untold}
@@ -151,3 +151,4 @@ local-alike (load bs e) i x = load-alike i bs e x
 local-alike (status s) i x = called-local (status s) i x
 local-alike (wish w) i x = called-local (wish w) i x
 local-alike key i x = called-local key i x
+local-alike (pollStatus s) i x = called-local (pollStatus s) i x

@@ -1,42 +1,46 @@
 -- Demand 1, call by call: the tests of a call are the conditions of the table that concern it.
-use Prim.Native.Nat.{ℕ, zero, suc, _*_}
+use Prim.Native.Nat.{ℕ, zero, suc}
 use mathlib.Core.Path.{_≡_, refl, ap, _∙_}
 use mathlib.Core.Bool.{Bool, true, false, not, cond, _&&_, _||_}
 use mathlib.Core.List.{List}
 use native.Mathlib.Omega.{arith}
 use lib.ListN.{length}
 use lib.Dec.{eqb, ltb, leb}
-use borrow.Author.Tests.{eqb-true, eqb-false, lt-ltb, le-ltb, leb-true, le-leb, eq-eqb}
-use Rattle.frame.specs.Messages.{frames}
-use Rattle.frame.specs.Decoding.{message, decoded as decoding, hasC1, offsetsOf, c1sOf, frameOf}
-use Rattle.frame.specs.Coding.{decodeOf, inList, encodeOf}
+use borrow.Author.Tests.{eqb-true, eqb-false, lt-ltb, le-ltb, ltb-true, ltb-false, leb-true, leb-false, le-leb}
+use borrow.Author.Tests.{eq-eqb, ne-eqb}
+use Rattle.frame.specs.Messages.{frames, kindAt, messages, firstIn, firstOf, codesIn, codesOf}
+use Rattle.frame.specs.Decoding.{message, idy, decoded as decoding, hasC1, offsetsOf, c1sOf, frameOf}
+use Rattle.frame.specs.Coding.{badFrame, decodeOf, inList, encodeOf}
 use Rattle.frame.specs.declared.Decoded.the-variants as decoder
 use Rattle.frame.specs.declared.Encoded.the-variants as encoder
+use Rattle.frame.proofs.Rows.{within-kind, no-frame}
+use Rattle.frame.proofs.Laws.{idy-kind}
 use Rattle.coding.specs.Coding.{decodedAs, encodedAs}
+use Rattle.poll_count.specs.Count.{noCount, counted, countedAs, pollCount as pollAnswer}
 use Rattle.record.specs.Sound.{only, allowed}
-use Rattle.area.specs.Sizes.{areaSize, mostDevices, itemSize}
-use Rattle.area.specs.Parts.{parts, all}
+use Rattle.area.specs.Sizes.{areaSize, mostDevices}
+use Rattle.area.specs.Parts.{all}
 use Rattle.area.specs.Loop.{Loop, countIn, loopOf, areaOf, shaped, sound, device}
 use Rattle.calls.specs.Outcome.{After, after, reads}
 use Rattle.calls.specs.Calls.{noTake, noHop, refusal, putIn, takeIn, hopIn, localIn, loadIn}
 use Rattle.calls.specs.Drain.{noDrain, drainIn}
 use Rattle.calls.specs.Owed.{noOwed, owedIn}
 use Rattle.calls.specs.declared.OwedAnswer.{OwedAnswer}
-use Rattle.calls.specs.SetUp.{devicesFor, itemsFit, poweredOn, setUpOf, setUpWith}
+use Rattle.calls.specs.SetUp.{devicesFor, isItems, itemWidth, itemsOf, itemsFit, poweredOn, setUpOf, setUpWith}
 use Rattle.saved.specs.Saved.{saved, savedSize, savedCount, savedDevices, formed, contents}
 use Rattle.saved.specs.Older.{old, zeroChoiceIn, opened, soundSave}
 use Rattle.saved.specs.Calls.{saveOf, saveWith, openWith}
-use Rattle.demands.specs.Calls.{Byte, numbers, Local, load, status, wish, key, calledBy, localBy, Action}
-use Rattle.demands.specs.Calls.{put, hop, take, local, drain, owes, save, Call, onArea, setUp, opens}
-use Rattle.demands.specs.Calls.{decode, encode, Answer, plain, hopped, taken, drained, owing, saving, decoded}
-use Rattle.demands.specs.Calls.{encoded, told, pil, refusalIn, bare, acts}
+use Rattle.demands.specs.Calls.{Byte, numbers, Local, load, status, wish, key, pollStatus, calledBy, localBy}
+use Rattle.demands.specs.Calls.{Action, put, hop, take, local, drain, owes, save, Call, onArea, setUp, opens, onFrame}
+use Rattle.demands.specs.Calls.{decode, encode, pollCount, Answer, plain, hopped, taken, drained, owing, saving, decoded}
+use Rattle.demands.specs.Calls.{encoded, polled, told, pil, refusalIn, bare, acts}
 use Rattle.demands.specs.Conditions.{devicesAt, oldWithChoice, badC1, BadFrame, due}
 use Rattle.demands.specs.Demands.{Demand1}
 use Rattle.demands.proofs.Away.{whole}
 use Rattle.demands.proofs.Lengths.{found-at, at-is, shape-is, for-is}
 use Rattle.demands.proofs.Refusals.{yes, Met, call-met, leb-turned, turned-lt}
 use Rattle.demands.proofs.Tests.{size-is, put-told, take-told, hop-told, local-told, load-told}
-use Rattle.demands.proofs.Tests.{status-refusal, wish-refusal, drain-told}
+use Rattle.demands.proofs.Tests.{status-refusal, wish-refusal, poll-status-refusal, drain-told}
 
 -- a call held to a refusal, as demand 1 has it
 record Held (c : Call) (a : List ℕ) (o : After Answer) (k : ℕ) : Type 0 where
@@ -124,6 +128,8 @@ module _ (a : List ℕ) where
       called-held i (status s) _ (λ l. refl) (status-refusal (device (loopOf a) i) (s .value))
   local-held i (wish w) = called-held i (wish w) _ (λ l. refl) (wish-refusal (device (loopOf a) i) w)
   local-held i key = called-held i key 0 (λ l. refl) refl
+  local-held i (pollStatus s) =
+      called-held i (pollStatus s) _ (λ l. refl) (poll-status-refusal (device (loopOf a) i) s)
 
   drain-held : (b : ℕ) → Held (onArea (drain b)) a (pil (onArea (drain b)) a) (due (onArea (drain b)) a)
   unfolding rows
@@ -185,7 +191,7 @@ module _ (a : List ℕ) (bytes : List Byte) where
   unfit z n = go (leb 1 n) (leb n mostDevices) (eqb (length a) (areaSize n)) refl refl refl
     where
       go : (p q r : Bool) → leb 1 n ≡ p → leb n mostDevices ≡ q → eqb (length a) (areaSize n) ≡ r →
-          ((p && q) && (r && eqb (length items) (itemSize * n))) ≡ false
+          ((p && q) && (r && isItems (length items) n)) ≡ false
       go true true true e f g =
           let w : length a ≡ areaSize n = eqb-true _ _ g in
           let d : devicesAt (length a) ≡ n = ap devicesAt w ∙ at-is n (leb-true _ _ e) (leb-true _ _ f) in
@@ -194,27 +200,27 @@ module _ (a : List ℕ) (bytes : List Byte) where
       go true false r e f g = refl
       go false q r e f g = refl
 
-  fit : (D ≡ 0 → ⊥) → itemsFit mostDevices D a items ≡ eqb (length items) (itemSize * D)
+  fit : (D ≡ 0 → ⊥) → itemsFit mostDevices D a items ≡ isItems (length items) D
   unfolding D itemsFit
   fit h = let f = found-at (length a) h in rw (le-leb _ _ (f .some), le-leb _ _ (f .few), eq-eqb _ _ (f .long))
 
   set-up-right : Right a (setUpOf a items) (due (setUp bytes) a)
-  unfolding setUpWith Right D items
+  unfolding setUpWith Right D items isItems itemWidth
   set-up-right = go (eqb (devicesAt (length a)) 0) refl
     where
       go : (z : Bool) → eqb (devicesAt (length a)) 0 ≡ z →
           Right a (cond (itemsFit mostDevices (devicesFor (length a)) a items)
-          (cond (all allowed (parts itemSize (devicesFor (length a)) items))
+          (cond (all allowed (itemsOf (devicesFor (length a)) items))
           (after 0 (areaOf (poweredOn (devicesFor (length a)) items))) (after 2 a)) (after 1 a))
-          (cond (z || not (eqb (length items) (itemSize * devicesAt (length a)))) 1
-          (cond (not (all allowed (parts itemSize (devicesAt (length a)) items))) 2 0))
+          (cond (z || not (isItems (length items) (devicesAt (length a)))) 1
+          (cond (not (all allowed (itemsOf (devicesAt (length a)) items))) 2 0))
       go true e = rw (unfit (eqb-true _ _ e) (devicesFor (length a))) (refl, λ z. refl)
       go false e =
           let h = eqb-false (devicesAt (length a)) 0 e in
           rw (for-is (length a) h, fit h)
           (right a (areaOf (poweredOn (devicesAt (length a)) items))
-          (eqb (length items) (itemSize * devicesAt (length a)))
-          (all allowed (parts itemSize (devicesAt (length a)) items)))
+          (isItems (length items) (devicesAt (length a)))
+          (all allowed (itemsOf (devicesAt (length a)) items)))
 
   set-up-held : Held (setUp bytes) a (pil (setUp bytes) a) (due (setUp bytes) a)
   unfolding Right items
@@ -250,11 +256,11 @@ opens-held s a = rw (← unsound-save (numbers s)) (go (formed mostDevices (numb
 
 -- ---- decoder and encoder
 
-decode-held : (f : ℕ) (a : List ℕ) → Held (decode f) a (pil (decode f) a) (due (decode f) a)
+decode-held : (f : ℕ) (a : List ℕ) → Held (onFrame (decode f)) a (pil (onFrame (decode f)) a) (due (onFrame (decode f)) a)
 unfolding decodeOf
 decode-held f a = rw (turned-lt f frames 4 0) (go (ltb f frames))
   where
-    go : (t : Bool) → Held (decode f) a
+    go : (t : Bool) → Held (onFrame (decode f)) a
         (after (decoded (decodedAs (cond t (decoder.Of (decoding f)) decoder.BadFrame))) a) (cond t 0 4)
     go true = record { refused = refl; unchanged = λ z. absurd (z refl) }
     go false = record { refused = refl; unchanged = λ z. (refl, refl) }
@@ -281,17 +287,51 @@ either-turned true t = refl
 either-turned false t = refl
 
 -- the encoder's row of the table is that they are not in the list
-pub outside : (k o c : ℕ) → BadFrame (encode k o c) ≡ not (inList (message k o c))
+pub outside : (k o c : ℕ) → BadFrame (onFrame (encode k o c)) ≡ not (inList (message k o c))
 outside k o c =
     rw (leb-turned o (offsetsOf k), c1-turned k c) (either-turned (ltb o (offsetsOf k)) (ltb c (c1sOf k)))
 
-encode-held : (k o c : ℕ) (a : List ℕ) → Held (encode k o c) a (pil (encode k o c) a) (due (encode k o c) a)
+encode-held : (k o c : ℕ) (a : List ℕ) → Held (onFrame (encode k o c)) a (pil (onFrame (encode k o c)) a) (due (onFrame (encode k o c)) a)
 unfolding encodeOf
 encode-held k o c a = rw (outside k o c) (go (inList (message k o c)))
   where
-    go : (t : Bool) → Held (encode k o c) a
+    go : (t : Bool) → Held (onFrame (encode k o c)) a
         (after (encoded (encodedAs (cond t (encoder.Frame (frameOf (message k o c))) encoder.BadFrame))) a)
         (cond (not t) 4 0)
+    go true = record { refused = refl; unchanged = λ z. absurd (z refl) }
+    go false = record { refused = refl; unchanged = λ z. (refl, refl) }
+
+-- the count's row of the table is that the frame is no IDY
+pub no-idy : (f : ℕ) → BadFrame (onFrame (pollCount f)) ≡ not (eqb (kindAt f) idy)
+unfolding messages firstIn firstOf codesIn codesOf
+no-idy f = go (ltb f (firstOf idy)) (leb frames f) refl refl
+  where
+    go : (p q : Bool) → ltb f (firstOf idy) ≡ p → leb frames f ≡ q → (p || q) ≡ not (eqb (kindAt f) idy)
+    go true q e g =
+        let h = ltb-true f (firstOf idy) e in
+        rw (ne-eqb (kindAt f) idy (λ k. omega (arith, h, within-kind f 42 k (omega arith))))
+    go false true e g =
+        let h = leb-true frames f g in
+        rw (ne-eqb (kindAt f) idy (λ k. omega (arith, h, within-kind f 42 k (omega arith))))
+    go false false e g =
+        rw (eq-eqb (kindAt f) idy (idy-kind f (ltb-false f (firstOf idy) e) (leb-false frames f g)))
+
+-- so the count's answer goes by that alone: what is no frame is of kind 0
+pub count-is : (f : ℕ) → pollAnswer f ≡ cond (eqb (kindAt f) idy) (counted (decoding f .offset)) (noCount badFrame)
+unfolding decodeOf
+count-is f = go (ltb f frames) refl
+  where
+    go : (t : Bool) → ltb f frames ≡ t → countedAs (cond t (decoder.Of (decoding f)) decoder.BadFrame) ≡
+        cond (eqb (kindAt f) idy) (counted (decoding f .offset)) (noCount badFrame)
+    go true e = refl
+    go false e = rw (no-frame f (ltb-false f frames e))
+
+count-held : (f : ℕ) (a : List ℕ) →
+    Held (onFrame (pollCount f)) a (pil (onFrame (pollCount f)) a) (due (onFrame (pollCount f)) a)
+count-held f a = rw (no-idy f, count-is f) (go (eqb (kindAt f) idy))
+  where
+    go : (t : Bool) → Held (onFrame (pollCount f)) a
+        (after (polled (cond t (counted (decoding f .offset)) (noCount badFrame))) a) (cond (not t) 4 0)
     go true = record { refused = refl; unchanged = λ z. absurd (z refl) }
     go false = record { refused = refl; unchanged = λ z. (refl, refl) }
 
@@ -299,8 +339,9 @@ call-held : (c : Call) (a : List ℕ) → Held c a (pil c a) (due c a)
 call-held (onArea c) a = action-held a c
 call-held (setUp items) a = set-up-held a items
 call-held (opens s) a = opens-held s a
-call-held (decode f) a = decode-held f a
-call-held (encode k o c) a = encode-held k o c a
+call-held (onFrame (decode f)) a = decode-held f a
+call-held (onFrame (encode k o c)) a = encode-held k o c a
+call-held (onFrame (pollCount f)) a = count-held f a
 
 pub demand-1 : Demand1
 demand-1 = record { by-table = λ c a. call-held c a .refused; changes-nothing = λ c a. call-held c a .unchanged }
@@ -309,16 +350,16 @@ demand-1 = record { by-table = λ c a. call-held c a .refused; changes-nothing =
 
 pub record SetsUp (a : List ℕ) (bytes : List Byte) (n : ℕ) : Type 0 where
   pub fits : itemsFit mostDevices n a (numbers bytes) ≡ true
-  pub allows : all allowed (parts itemSize n (numbers bytes)) ≡ true
+  pub allows : all allowed (itemsOf n (numbers bytes)) ≡ true
   pub leaves : pil (setUp bytes) a .area ≡ areaOf (poweredOn n (numbers bytes))
 
 pub sets-up : (a : List ℕ) (bytes : List Byte) → due (setUp bytes) a ≡ 0 → SetsUp a bytes (devicesAt (length a))
-unfolding setUpWith D items
+unfolding setUpWith D items isItems itemWidth
 sets-up a bytes z = go (eqb (devicesAt (length a)) 0) refl z
   where
     rest : (h : devicesAt (length a) ≡ 0 → ⊥) (s t : Bool) →
-        eqb (length (numbers bytes)) (itemSize * devicesAt (length a)) ≡ s →
-        all allowed (parts itemSize (devicesAt (length a)) (numbers bytes)) ≡ t →
+        isItems (length (numbers bytes)) (devicesAt (length a)) ≡ s →
+        all allowed (itemsOf (devicesAt (length a)) (numbers bytes)) ≡ t →
         _≡_ {A = ℕ} (cond (not s) 1 (cond (not t) 2 0)) 0 → SetsUp a bytes (devicesAt (length a))
     rest h true true e f q =
         record {
@@ -330,8 +371,8 @@ sets-up a bytes z = go (eqb (devicesAt (length a)) 0) refl z
     rest h false t e f q = absurd (omega arith)
 
     go : (b : Bool) → eqb (devicesAt (length a)) 0 ≡ b →
-        _≡_ {A = ℕ} (cond (b || not (eqb (length (numbers bytes)) (itemSize * devicesAt (length a)))) 1
-        (cond (not (all allowed (parts itemSize (devicesAt (length a)) (numbers bytes)))) 2 0)) 0 →
+        _≡_ {A = ℕ} (cond (b || not (isItems (length (numbers bytes)) (devicesAt (length a)))) 1
+        (cond (not (all allowed (itemsOf (devicesAt (length a)) (numbers bytes)))) 2 0)) 0 →
         SetsUp a bytes (devicesAt (length a))
     go true e q = absurd (omega arith)
     go false e q = rest (eqb-false (devicesAt (length a)) 0 e) _ _ refl refl q

@@ -13,5 +13,6 @@ pub mod Second
 pub mod Rendered
 pub mod Lined
 pub mod Third
+pub mod Polled
 pub mod Owing
 pub mod ThirtyOne

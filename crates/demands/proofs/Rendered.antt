@@ -16,7 +16,7 @@ use Rattle.calls.specs.Calls.{noHop, noTake, refusal, putIn, takeIn, hopIn}
 use Rattle.calls.specs.Drain.{noDrain, drainIn}
 use Rattle.calls.proofs.Kept.{put-keeps, take-keeps, hop-keeps, drain-keeps}
 use Rattle.calls.specs.Laws.{Keeps}
-use Rattle.calls.proofs.Laws.{load-keeps, status-keeps, wish-keeps, key-keeps}
+use Rattle.calls.proofs.Laws.{load-keeps, status-keeps, wish-keeps, key-keeps, poll-status-keeps}
 use Rattle.order.specs.Line as line
 use Rattle.order.specs.History as told
 use Rattle.order.specs.Through as order
@@ -24,8 +24,8 @@ use Rattle.order.specs.Through.{Rendering, Writing, Every, FairCall, Tells, cal
 use Rattle.order.proofs.Flat.{same-flat}
 use Rattle.order.proofs.Through.{through, read-each, read-total}
 use Rattle.order.proofs.Turns.{calls-each}
-use Rattle.demands.specs.Calls.{Byte, numbers, Local, load, status, wish, key, localBy, Action, put, hop}
-use Rattle.demands.specs.Calls.{take, local, drain, owes, save, Answer, plain, hopped, taken, drained}
+use Rattle.demands.specs.Calls.{Byte, numbers, Local, load, status, wish, key, pollStatus, localBy, Action, put}
+use Rattle.demands.specs.Calls.{hop, take, local, drain, owes, save, Answer, plain, hopped, taken, drained}
 use Rattle.demands.specs.Histories.{Step, call, away, putAway, stepped, history, if, putBy, takenBy, handedBy}
 use Rattle.demands.specs.Histories.{hopsBy, ofCall, each, total, areaLeft, framesPut, framesTaken, allHanded}
 use Rattle.demands.specs.Histories.{hopsMade, papers, calls, stepCalls, allCalls}
@@ -46,6 +46,7 @@ local-keeps (load bs e) i = load-keeps i (numbers bs) e (numbers-bytes bs)
 local-keeps (status s) i = status-keeps i (s .value) (s .small)
 local-keeps (wish w) i = wish-keeps i w
 local-keeps key i = key-keeps i
+local-keeps (pollStatus s) i = poll-status-keeps i s
 
 settle-sound : {A : Type 0} (kind : A → Answer) (deny : ℕ → A) (m : Loop) (o : Outcome A) →
     Sound-loop (loopAfter m o) → Sound-loop ((settle kind deny m o) .0)

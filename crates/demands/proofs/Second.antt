@@ -5,15 +5,16 @@ use mathlib.Core.Bool.{Bool, true, false, not, cond}
 use mathlib.Core.Path.{_≡_, refl, sym, ap, _∙_}
 use mathlib.Core.List.{List, [], _∷_, _++_, tail}
 use native.Mathlib.Omega.{arith}
+use lib.Dec.{eqb}
 use lib.ListN.{length, length-set}
 use lib.Seq.{getD-set-other}
 use borrow.Author.Tests.{lt-ltb}
 use Rattle.frame.proofs.Rows.{in-order}
-use Rattle.frame.specs.Messages.{frames}
-use Rattle.frame.specs.Decoding.{message, decoded as decoding, frameOf}
+use Rattle.frame.specs.Messages.{frames, kindAt}
+use Rattle.frame.specs.Decoding.{message, idy, decoded as decoding, frameOf}
 use Rattle.frame.specs.declared.Decoded.the-variants as decoder
 use Rattle.frame.specs.declared.Encoded.the-variants as encoder
-use Rattle.frame.specs.Coding.{decodeOf, inList, encodeOf}
+use Rattle.frame.specs.Coding.{badFrame, decodeOf, inList, encodeOf}
 use Rattle.frame.proofs.Laws.{decode-encode, encode-decode, kind-zero}
 use Rattle.device.specs.Take.{takes}
 use Rattle.device.proofs.Sentences.{end-where-asked, end-only-asked, events-reported, events-change-nothing}
@@ -38,19 +39,21 @@ use Rattle.calls.proofs.Outcomes.{call-done}
 use Rattle.coding.specs.Coding.{decodedAs, decodeAnswer, encodedAs, encodeAnswer}
 use Rattle.coding.specs.declared.DecodeAnswer.{DecodeAnswer}
 use Rattle.coding.specs.declared.EncodeAnswer.{EncodeAnswer}
+use Rattle.poll_count.specs.Count.{noCount, counted, pollCount as pollAnswer}
+use Rattle.poll_count.specs.declared.PollAnswer.{PollAnswer}
 use Rattle.calls.specs.SetUp.{poweredOn}
 use Rattle.saved.specs.Saved.{saved}
 use Rattle.saved.specs.Older.{opened}
 use Rattle.saved.specs.Calls.{saveOf, openOf}
 use Rattle.saved.proofs.Laws as saved-laws
-use Rattle.demands.specs.Calls.{Byte, numbers, hop, owes, save, onArea, setUp, opens, encode, Answer, plain}
-use Rattle.demands.specs.Calls.{hopped, owing, saving, decoded, encoded, told, acts, pil}
+use Rattle.demands.specs.Calls.{Byte, numbers, hop, owes, save, onArea, setUp, opens, onFrame, encode, pollCount}
+use Rattle.demands.specs.Calls.{Answer, plain, hopped, owing, saving, decoded, encoded, polled, told, acts, pil}
 use Rattle.demands.specs.Conditions.{devicesAt, due}
 use Rattle.demands.specs.Demands.{CanHop, ruled, recordTaken, linkLess, hopLeaves, hopsOwed, Demand2, SavedLoops}
 use Rattle.demands.specs.Demands.{EndByChoice, RemoteLocal}
 use Rattle.demands.proofs.Away.{whole, save-leaves, open-leaves}
 use Rattle.demands.proofs.Tests.{size-is}
-use Rattle.demands.proofs.First.{outside, demand-1, sets-up}
+use Rattle.demands.proofs.First.{outside, no-idy, count-is, demand-1, sets-up}
 use Rattle.demands.proofs.ByHops.{drain-hops}
 use Rattle.demands.proofs.Spliced.{spliced, device-area, put-leaves, take-leaves, local-call-leaves}
 
@@ -127,7 +130,7 @@ module _ (i f : ℕ) (fs a : List ℕ) (can : CanHop i f fs a) where
   hop-answers : acts (hop i) a .answer ≡ hopped (hopAnswer (ruled i f a .frame) (ruled i f a .handed))
   hop-answers = ap (λ (o : After HopAnswer). hopped (o .answer)) hop-is
 
--- ---- owed, set up, save and opening, decoder and encoder
+-- ---- owed, set up, save and opening, decoder, encoder and the count of a poll
 
 owed-told : (a : List ℕ) → judgeOf a ≡ 0 →
     acts owes a ≡ after (owing (record { hops = hopsOwed a; refusal = 0 })) a
@@ -156,7 +159,7 @@ decode-answers : (f : ℕ) → f < frames → decodeAnswer f ≡ decodedAs (deco
 unfolding decodeOf
 decode-answers f h = rw (lt-ltb f frames h)
 
-encode-answers : (k o c : ℕ) (a : List ℕ) → due (encode k o c) a ≡ 0 →
+encode-answers : (k o c : ℕ) (a : List ℕ) → due (onFrame (encode k o c)) a ≡ 0 →
     encodeAnswer k o c ≡ encodedAs (encoder.Frame (frameOf (message k o c)))
 unfolding encodeOf
 encode-answers k o c a z = go (inList (message k o c)) (rw (outside k o c) at z)
@@ -164,6 +167,15 @@ encode-answers k o c a z = go (inList (message k o c)) (rw (outside k o c) at z)
     go : (t : Bool) → _≡_ {A = ℕ} (cond (not t) 4 0) 0 →
         encodedAs (cond t (encoder.Frame (frameOf (message k o c))) encoder.BadFrame) ≡
         encodedAs (encoder.Frame (frameOf (message k o c)))
+    go true z = refl
+    go false z = absurd (omega arith)
+
+count-answers : (f : ℕ) (a : List ℕ) → due (onFrame (pollCount f)) a ≡ 0 →
+    pollAnswer f ≡ counted (decoding f .offset)
+count-answers f a z = count-is f ∙ go (eqb (kindAt f) idy) (rw (no-idy f) at z)
+  where
+    go : (t : Bool) → _≡_ {A = ℕ} (cond (not t) 4 0) 0 →
+        cond t (counted (decoding f .offset)) (noCount badFrame) ≡ counted (decoding f .offset)
     go true z = refl
     go false z = absurd (omega arith)
 
@@ -184,6 +196,7 @@ demand-2 =
             opening = opened-as;
             decodes = λ f a h. ap (λ (r : DecodeAnswer). after (decoded r) a) (decode-answers f h);
             encodes = λ k o c a z. ap (λ (r : EncodeAnswer). after (encoded r) a) (encode-answers k o c a z);
+            counts = λ f a z. ap (λ (r : PollAnswer). after (polled r) a) (count-answers f a z);
           };
       messages-in-order = in-order;
       decode-encode = decode-encode;

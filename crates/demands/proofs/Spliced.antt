@@ -23,8 +23,8 @@ use Rattle.calls.specs.Outcome.{Outcome, done, After, after, callOf, callWith}
 use Rattle.calls.specs.Calls.{refusal, noTake, putIn, takeIn, localIn}
 use Rattle.calls.specs.declared.TakeAnswer.{TakeAnswer}
 use Rattle.calls.proofs.Outcomes.{load-chosen, take-done}
-use Rattle.demands.specs.Calls.{numbers, Local, load, status, wish, key, calledBy, put, take, local, plain}
-use Rattle.demands.specs.Calls.{taken, told, acts}
+use Rattle.demands.specs.Calls.{numbers, Local, load, status, wish, key, pollStatus, calledBy, put, take, local}
+use Rattle.demands.specs.Calls.{plain, taken, told, acts}
 use Rattle.demands.specs.Demands.{Judged}
 use Rattle.demands.proofs.Tests.{size-is, load-choice}
 
@@ -99,3 +99,4 @@ module _ (a : List ℕ) (j : Judged a) where
       go (status s) z q = ap (told plain) q
       go (wish w) z q = ap (told plain) q
       go key z q = ap (told plain) q
+      go (pollStatus s) z q = ap (told plain) q

@@ -9,9 +9,9 @@ use lib.Dec.{eqb, ltb, leb}
 use borrow.Author.Tests.{eqb-true, eqb-false}
 use Rattle.frame.specs.Messages.{frames}
 use Rattle.device.specs.Choose.{choose}
-use Rattle.device.specs.Device.{isChoice, has}
+use Rattle.device.specs.Device.{isChoice, has, hasFurther}
 use Rattle.device.specs.Change.{loading}
-use Rattle.record_local.specs.Local.{refused, accepted, loads, setsStatus, wishes}
+use Rattle.record_local.specs.Local.{refused, accepted, loads, setsStatus, wishes, setsPollStatus}
 use Rattle.device.specs.declared.Device.{Device}
 use Rattle.record_local.specs.Local.{Called}
 use Rattle.device.specs.declared.Handed.{Handed}
@@ -157,6 +157,10 @@ module _ (d : Device) where
   pub wish-refusal : (w : ℕ) → wishes d w .refusal ≡ cond (not (has d 128)) 7 0
   unfolding wishes
   wish-refusal w = chosen-refusal (has d 128) _ _
+
+  pub poll-status-refusal : (s : ℕ) → setsPollStatus d s .refusal ≡ cond (not (hasFurther d 1)) 7 0
+  unfolding setsPollStatus
+  poll-status-refusal s = chosen-refusal (hasFurther d 1) _ _
 
 -- load: the choice before the device's number
 pub load-told : (i : ℕ) (bs : List ℕ) (e : ℕ) (l : Loop) →

@@ -10,12 +10,12 @@ use borrow.Author.Tests.{lt-ltb}
 use Rattle.frame.specs.Messages.{frames}
 use Rattle.device.specs.PowerOn.{powerOn}
 use Rattle.device.specs.declared.Device.{Device}
-use Rattle.area.specs.Sizes.{mostDevices, itemSize}
+use Rattle.area.specs.Sizes.{mostDevices}
 use Rattle.area.specs.Loop.{Loop, countIn, loopOf, areaOf, link, Sound-loop}
 use Rattle.area.proofs.Parts.{length-parts}
 use Rattle.area.proofs.Laws.{loop-back}
 use Rattle.calls.specs.Outcome.{After}
-use Rattle.calls.specs.SetUp.{itemsOf, poweredOn}
+use Rattle.calls.specs.SetUp.{itemWidth, itemsOf, poweredOn}
 use Rattle.calls.proofs.Powered.{set-up-sound}
 use Rattle.saved.specs.Calls.{openOf}
 use Rattle.saved.proofs.Laws.{opened-bytes}
@@ -103,7 +103,7 @@ module _ (l : line.Loop papers) (good : Sound-loop (toLoop l)) (ss : List Step)
   abbrev es : List (line.Event papers)
   es = (line.run l (callsOf R ss)) .1
 
-  abbrev left : List Device
+  abbrev pub left : List Device
   left = flat.statesOf end
 
   abbrev x : List ℕ
@@ -218,7 +218,7 @@ module _ (a : List ℕ) (items : List Byte) (set : due (setUp items) a ≡ 0) wh
   ds = map powerOn (itemsOf n (numbers items))
 
   many : length ds ≡ n
-  many = length-map (itemsOf n (numbers items)) powerOn ∙ length-parts itemSize n (numbers items)
+  many = length-map (itemsOf n (numbers items)) powerOn ∙ length-parts (itemWidth (length (numbers items)) n) n (numbers items)
 
   -- the loop is an idle line
   powered-idle : toLoop (line.idle ds) ≡ poweredOn n (numbers items)

@@ -19,7 +19,7 @@ use Rattle.calls.specs.declared.OwedAnswer.{OwedAnswer}
 use Rattle.limits.specs.Limits.{FewIn, Agree}
 use Rattle.limits.proofs.Limits.{limits-agree, more-refused}
 use Rattle.demands.specs.Calls.{numbers, localBy, Action, put, hop, take, local, drain, owes, save, Call}
-use Rattle.demands.specs.Calls.{onArea, setUp, opens, decode, encode, plain, hopped, taken, drained, owing}
+use Rattle.demands.specs.Calls.{onArea, setUp, opens, onFrame, plain, hopped, taken, drained, owing}
 use Rattle.demands.specs.Calls.{saving, told, actsWith, pilWith, acts, pil}
 use Rattle.demands.specs.Demands.{formerMost, FewFor, ThirtyOne}
 
@@ -50,8 +50,7 @@ alike : (c : Call) (a : List ℕ) → FewFor formerMost c a → pilWith formerMo
 alike (onArea c) a few = acts-alike c a few
 alike (setUp items) a few = ap (told plain) (agree .set-up a (numbers items) few)
 alike (opens s) a few = ap (told plain) (agree .opening a (numbers s) few)
-alike (decode f) a few = refl
-alike (encode k o c) a few = refl
+alike (onFrame c) a few = refl
 
 pub thirty-one : ThirtyOne
 thirty-one =

@@ -3,7 +3,7 @@
 use Prim.Native.Nat.{ℕ, _<_}
 use mathlib.Core.List.{List, map}
 use Rattle.device.specs.declared.Device.{Device}
-use Rattle.record_local.specs.Local.{Called, loads, setsStatus, wishes, presses}
+use Rattle.record_local.specs.Local.{Called, loads, setsStatus, wishes, presses, setsPollStatus}
 use Rattle.area.specs.Sizes.{mostDevices}
 use Rattle.area.specs.Loop.{Loop}
 use Rattle.calls.specs.Outcome.{Outcome, After, after, callWith, reads}
@@ -13,12 +13,14 @@ use Rattle.calls.specs.Owed.{noOwed, owedIn}
 use Rattle.calls.specs.SetUp.{setUpWith}
 use Rattle.saved.specs.Calls.{saveWith, openWith}
 use Rattle.coding.specs.Coding.{noDecoding, decodeAnswer, noEncoding, encodeAnswer}
+use Rattle.poll_count.specs.Count.{noCount, pollCount as pollAnswer}
 use Rattle.calls.specs.declared.HopAnswer.{HopAnswer}
 use Rattle.calls.specs.declared.TakeAnswer.{TakeAnswer}
 use Rattle.calls.specs.declared.DrainAnswer.{DrainAnswer}
 use Rattle.calls.specs.declared.OwedAnswer.{OwedAnswer}
 use Rattle.coding.specs.declared.DecodeAnswer.{DecodeAnswer}
 use Rattle.coding.specs.declared.EncodeAnswer.{EncodeAnswer}
+use Rattle.poll_count.specs.declared.PollAnswer.{PollAnswer}
 
 -- a byte, as C has it
 pub record Byte : Type 0 where
@@ -35,6 +37,7 @@ pub data Local : Type 0 where
   status : Byte → Local
   wish : ℕ → Local
   key : Local
+  pollStatus : ℕ → Local
 
 -- what it leaves of the device
 abbrev pub calledBy : Local → Device → Called
@@ -42,6 +45,7 @@ calledBy (load bs e) d = loads d (numbers bs) e
 calledBy (status s) d = setsStatus d (s .value)
 calledBy (wish w) d = wishes d w
 calledBy key d = presses d
+calledBy (pollStatus s) d = setsPollStatus d s
 
 -- and what it does with device i of a loop: a load's choice is looked at before the device is
 abbrev pub localBy : Local → ℕ → Loop → Outcome ℕ
@@ -49,6 +53,7 @@ localBy (load bs e) i l = loadIn i (numbers bs) e l
 localBy (status s) i l = localIn (calledBy (status s)) i l
 localBy (wish w) i l = localIn (calledBy (wish w)) i l
 localBy key i l = localIn (calledBy key) i l
+localBy (pollStatus s) i l = localIn (calledBy (pollStatus s)) i l
 
 -- a call on the area of a loop that is set up or opened
 pub data Action : Type 0 where
@@ -61,13 +66,18 @@ pub data Action : Type 0 where
   -- with the bytes of its output before
   save : List Byte → Action
 
+-- a call on the numbers of a frame, which is lent no area
+pub data Coding : Type 0 where
+  decode : ℕ → Coding
+  encode : (kind offset c1 : ℕ) → Coding
+  pollCount : ℕ → Coding
+
 -- any exported call
 pub data Call : Type 0 where
   onArea : Action → Call
   setUp : List Byte → Call
   opens : (s : List Byte) → Call
-  decode : ℕ → Call
-  encode : (kind offset c1 : ℕ) → Call
+  onFrame : Coding → Call
 
 -- what a C caller is answered
 pub data Answer : Type 0 where
@@ -80,6 +90,7 @@ pub data Answer : Type 0 where
   saving : ℕ → List ℕ → Answer
   decoded : DecodeAnswer → Answer
   encoded : EncodeAnswer → Answer
+  polled : PollAnswer → Answer
 
 -- an answer of one type as any answer
 abbrev pub told : {A : Type 0} → (A → Answer) → After A → After Answer
@@ -97,13 +108,18 @@ actsWith limit owes a = after (owing (callWith limit noOwed (reads owedIn) a .an
 actsWith limit (save out) a =
     after (saving (saveWith limit a (numbers out) .answer) (saveWith limit a (numbers out) .area)) a
 
--- what a call answers and leaves; decoder and encoder are lent no area
+-- what a call on a frame answers
+abbrev pub codes : Coding → Answer
+codes (decode f) = decoded (decodeAnswer f)
+codes (encode k o c) = encoded (encodeAnswer k o c)
+codes (pollCount f) = polled (pollAnswer f)
+
+-- what any call answers and leaves
 abbrev pub pilWith : ℕ → Call → List ℕ → After Answer
 pilWith limit (onArea c) a = actsWith limit c a
 pilWith limit (setUp items) a = told plain (setUpWith limit a (numbers items))
 pilWith limit (opens s) a = told plain (openWith limit a (numbers s))
-pilWith limit (decode f) a = after (decoded (decodeAnswer f)) a
-pilWith limit (encode k o c) a = after (encoded (encodeAnswer k o c)) a
+pilWith limit (onFrame c) a = after (codes c) a
 
 -- both by the limit that holds
 abbrev pub acts : Action → List ℕ → After Answer
@@ -122,6 +138,7 @@ refusalIn (owing r) = r .refusal
 refusalIn (saving k out) = k
 refusalIn (decoded r) = r .refusal
 refusalIn (encoded r) = r .refusal
+refusalIn (polled r) = r .refusal
 
 -- the answer of a refusal: its number and otherwise zeros, and an output as it was
 abbrev pub bareAction : Action → ℕ → Answer
@@ -133,9 +150,13 @@ bareAction (drain b) k = drained (noDrain k)
 bareAction owes k = owing (noOwed k)
 bareAction (save out) k = saving k (numbers out)
 
+abbrev pub bareCoding : Coding → ℕ → Answer
+bareCoding (decode f) k = decoded (noDecoding k)
+bareCoding (encode j o c) k = encoded (noEncoding k)
+bareCoding (pollCount f) k = polled (noCount k)
+
 abbrev pub bare : Call → ℕ → Answer
 bare (onArea c) k = bareAction c k
 bare (setUp items) k = plain k
 bare (opens s) k = plain k
-bare (decode f) k = decoded (noDecoding k)
-bare (encode j o c) k = encoded (noEncoding k)
+bare (onFrame c) k = bareCoding c k

@@ -1,22 +1,25 @@
 -- The conditions of 01's refusal table, each a test of a call and an area, written from the table row by row, with what
--- 02 adds: g to the fourth, a to the first two and a tenth, d (by what is sound) and h to the second, h to the tenth.
+-- 02 adds: g to the fourth, a to the first two and a tenth, d (by what is sound) and h to the second, h to the tenth;
+-- f to the first, the second (by what is sound and what is allowed), the fourth and the seventh.
 use Prim.Native.Nat.{ℕ, zero, suc, _*_}
 use mathlib.Core.List.{List, [], _∷_}
 use mathlib.Core.Bool.{Bool, false, not, cond, _&&_, _||_}
 use lib.ListN.{length, getD}
 use lib.Dec.{eqb, ltb, leb}
-use Rattle.frame.specs.Messages.{frames}
-use Rattle.frame.specs.Decoding.{hasC1, offsetsOf}
-use Rattle.device.specs.Device.{sendData, status as sendStatus, serviceRequest, sendingData, mostData, has}
+use Rattle.frame.specs.Messages.{frames, firstOf}
+use Rattle.frame.specs.Decoding.{idy, hasC1, offsetsOf}
+use Rattle.device.specs.Device.{sendData, status as sendStatus, serviceRequest, parallelPoll, sendingData, mostData}
+use Rattle.device.specs.Device.{has, hasFurther}
 use Rattle.device.specs.Change.{choice}
 use Rattle.device.specs.declared.Device.{Device}
 use Rattle.record.specs.Sound.{allowed}
-use Rattle.area.specs.Sizes.{depth, mostDevices, itemSize, areaSize}
+use Rattle.area.specs.Sizes.{depth, mostDevices, itemSize, longItemSize, areaSize}
 use Rattle.area.specs.Parts.{parts, all}
 use Rattle.area.specs.Loop.{countIn, loopOf, sound, device, link}
 use Rattle.saved.specs.Saved.{body, savedSize, savedCount, edition, savedDevices, formed, contents}
-use Rattle.demands.specs.Calls.{Byte, numbers, Local, load, status, wish, key, Action, put, hop, take}
-use Rattle.demands.specs.Calls.{local, drain, owes, save, Call, onArea, setUp, opens, decode, encode}
+use Rattle.demands.specs.Calls.{Byte, numbers, Local, load, status, wish, key, pollStatus, Action, put, hop}
+use Rattle.demands.specs.Calls.{take, local, drain, owes, save, decode, encode, pollCount, Call, onArea, setUp}
+use Rattle.demands.specs.Calls.{opens, onFrame}
 
 -- the number of devices, n at most, whose area has this length; 0 if there is none
 abbrev pub devicesUpTo : ℕ → ℕ → ℕ
@@ -36,16 +39,23 @@ badOutput (drain b) a = false
 badOutput owes a = false
 badOutput (save out) a = not (eqb (length (numbers out)) (savedSize (countIn a)))
 
+-- so many bytes are neither 12n nor 13n (02, f)
+abbrev pub badItems : (bytes n : ℕ) → Bool
+badItems bytes n = not (eqb bytes (itemSize * n) || eqb bytes (longItemSize * n))
+
+-- the items, each of 13 bytes where there are 13n, and else of 12
+abbrev pub itemsIn : ℕ → List ℕ → List (List ℕ)
+itemsIn n items = parts (cond (eqb (length items) (longItemSize * n)) longItemSize itemSize) n items
+
 -- 1, Shape: the area's length isn't one of a loop, or not that of byte 0, or a save's output is wrong; at set up the
--- items' length isn't 12n for the n of the area's length, at an opening the area's length isn't that of the saved loop
+-- items' length isn't 12n or 13n for the n of the area's length, at an opening the area's length isn't that of the saved
+-- loop
 abbrev pub Shape : Call → List ℕ → Bool
 Shape (onArea c) a =
     badOutput c a || (eqb (devicesAt (length a)) 0 || not (eqb (length a) (areaSize (countIn a))))
-Shape (setUp items) a = eqb (devicesAt (length a)) 0 || not
-    (eqb (length (numbers items)) (itemSize * devicesAt (length a)))
+Shape (setUp items) a = eqb (devicesAt (length a)) 0 || badItems (length (numbers items)) (devicesAt (length a))
 Shape (opens s) a = not (eqb (length a) (areaSize (savedCount (numbers s))))
-Shape (decode f) a = false
-Shape (encode k o c) a = false
+Shape (onFrame c) a = false
 
 -- a load's condition, and no other local call's
 abbrev pub ofLoad : (List Byte → ℕ → Bool) → Local → Bool
@@ -53,6 +63,7 @@ ofLoad test (load bs e) = test bs e
 ofLoad test (status s) = false
 ofLoad test (wish w) = false
 ofLoad test key = false
+ofLoad test (pollStatus s) = false
 
 -- the choice of a load is neither 0 nor 1
 abbrev pub noChoice : Action → Bool
@@ -72,10 +83,9 @@ oldWithChoice s = eqb (edition s) 0 && not (all (λ r. eqb (getD (body r) choice
 -- what was saved isn't sound, and the contents aren't looked at
 abbrev pub Unsound : Call → List ℕ → Bool
 Unsound (onArea c) a = noChoice c || not (sound a)
-Unsound (setUp items) a = not (all allowed (parts itemSize (devicesAt (length a)) (numbers items)))
+Unsound (setUp items) a = not (all allowed (itemsIn (devicesAt (length a)) (numbers items)))
 Unsound (opens s) a = not (sound (contents (numbers s))) || oldWithChoice (numbers s)
-Unsound (decode f) a = false
-Unsound (encode k o c) a = false
+Unsound (onFrame c) a = false
 
 -- 3, NoDevice: the device number is n or more
 abbrev pub NoDevice : Action → List ℕ → Bool
@@ -91,7 +101,8 @@ NoDevice (save out) a = false
 abbrev pub badC1 : ℕ → ℕ → Bool
 badC1 k c = ltb 1 c || (eqb c 1 && not (hasC1 k))
 
--- 4, BadFrame: a frame over 2,047 at put or decoder; at the encoder a kind or an offset outside the list, or such a C1
+-- 4, BadFrame: a frame over 2,047 at put or decoder; at the encoder a kind or an offset outside the list, or such a C1;
+-- at the count of a poll anything but an IDY, 600 to 7ff
 abbrev pub BadFrame : Call → Bool
 BadFrame (onArea (put f)) = leb frames f
 BadFrame (onArea (hop i)) = false
@@ -102,8 +113,9 @@ BadFrame (onArea owes) = false
 BadFrame (onArea (save out)) = false
 BadFrame (setUp items) = false
 BadFrame (opens s) = false
-BadFrame (decode f) = leb frames f
-BadFrame (encode k o c) = leb (offsetsOf k) o || badC1 k c
+BadFrame (onFrame (decode f)) = leb frames f
+BadFrame (onFrame (encode k o c)) = leb (offsetsOf k) o || badC1 k c
+BadFrame (onFrame (pollCount f)) = ltb f (firstOf idy) || leb frames f
 
 -- link j holds no frame; it holds four
 abbrev pub holdsNone : ℕ → List ℕ → Bool
@@ -132,12 +144,14 @@ Full (drain b) a = false
 Full owes a = false
 Full (save out) a = false
 
--- a device lacks the ability that a local call asks for: load without 2, status without 4, wish without 128
+-- a device lacks the ability that a local call asks for: load without 2, status without 4, wish without 128, poll status
+-- without 1 of byte 7
 abbrev pub lacks : Local → Device → Bool
 lacks (load bs e) d = not (has d sendData)
 lacks (status s) d = not (has d sendStatus)
 lacks (wish w) d = not (has d serviceRequest)
 lacks key d = false
+lacks (pollStatus s) d = not (hasFurther d parallelPoll)
 
 -- 7, NoAbility: the device lacks the ability that the local call asks for
 abbrev pub NoAbility : Action → List ℕ → Bool
@@ -175,16 +189,14 @@ abbrev pub BadSave : Call → Bool
 BadSave (onArea c) = false
 BadSave (setUp items) = false
 BadSave (opens s) = not (formed mostDevices (numbers s))
-BadSave (decode f) = false
-BadSave (encode k o c) = false
+BadSave (onFrame c) = false
 
 -- an action's condition, and no other call's
 abbrev pub ofAction : (Action → List ℕ → Bool) → Call → List ℕ → Bool
 ofAction test (onArea c) a = test c a
 ofAction test (setUp items) a = false
 ofAction test (opens s) a = false
-ofAction test (decode f) a = false
-ofAction test (encode k o c) a = false
+ofAction test (onFrame c) a = false
 
 -- a row of the table: a refusal's number, and whether its condition holds
 pub record Row : Type 0 where

@@ -1,16 +1,18 @@
 -- The three demands on the model, and what 02 asks of the hops owed (k), of saved loops (a), of the limit on devices
--- (j), of END by choice (h) and of clear, trigger, remote and local (d), over the very definitions that the contracts
--- of the exported functions cite.
+-- (j), of END by choice (h), of clear, trigger, remote and local (d) and of parallel poll (f), over the very definitions
+-- that the contracts of the exported functions cite.
 -- It leans on Calls, Conditions, Drains, Histories (the crate teeth says what it shuts out); frame's Messages,
--- Decoding, Coding, Laws; coding's Coding; device's Sent, Sentences, RemoteTable, and Take with the rules that it
--- names; record_local's Local; record's Record, Parts, Sound, Fits, Laws; area's Sizes, Parts, Link, Loop, Lookup;
--- calls' Outcome, Calls, Drain, SetUp, Owed; saved's Saved, Older, Calls, Laws; limits' Limits; order's Line, Flat,
--- History, RightRound, Through, Owed, which have names of their own.
+-- Classes, Decoding, Coding, Laws, Bits; coding's Coding; poll_count's Count; device's Sent, Sentences, RemoteTable,
+-- PollSentences, PollTable, and Take with the rules that it names; record_local's Local; record's Record, Parts, Sound,
+-- Fits, Laws; area's Sizes, Parts, Link, Loop, Lookup; calls' Outcome, Calls, Drain, SetUp, Owed; saved's Saved, Older,
+-- Calls, Laws; limits' Limits; order's Line, Flat, History, RightRound, Through, Owed, which have names of their own.
 use Prim.Native.Nat.{ℕ, suc, _+_, _*_, _≤_, _<_}
 use mathlib.Core.Path.{_≡_}
-use mathlib.Core.List.{List, [], _∷_, _++_, tail}
+use mathlib.Core.List.{List, [], _∷_, _++_, map, tail}
+use lib.Bits.{bitOr}
 use lib.ListN.{length}
 use Rattle.frame.specs.Messages.{frames}
+use Rattle.frame.specs.Classes.{IsIdentify}
 use Rattle.frame.specs.Decoding.{message, decoded as decoding, frameOf}
 use Rattle.frame.specs.Laws.{TableInOrder, DecodeEncode, EncodeDecode, KindZero}
 use Rattle.device.specs.Take.{takes}
@@ -18,8 +20,12 @@ use Rattle.device.specs.Sent.{Sent}
 use Rattle.device.specs.Sentences.{EndWhereAsked, EndOnlyAsked, EventsReported, EventsChangeNothing}
 use Rattle.device.specs.Sentences.{OthersLeaveRemote, IfcLeavesRemote, OnlyEnabled, GtlOnlyListener, KeyOnlyUnlocked}
 use Rattle.device.specs.RemoteTable.{RemoteTable}
+use Rattle.device.specs.PollSentences.{Assigning, OnlyListeners, LeavesPoll, IdyBits, polledBy, SharedOr, SharedAnd}
+use Rattle.device.specs.Poll.{answer}
+use Rattle.device.specs.PollTable.{Note5, RackReads}
+use Rattle.device.specs.declared.Device.{Device}
 use Rattle.record.specs.Record.{recordOf}
-use Rattle.record.specs.Laws.{AnyRemote}
+use Rattle.record.specs.Laws.{AnyRemote, AnyPoll, NoPoll}
 use Rattle.record.specs.Parts.{splice}
 use Rattle.record.specs.Fits.{Bytes}
 use Rattle.area.specs.Sizes.{depth, mostDevices, recordAt, linkAt}
@@ -33,16 +39,19 @@ use Rattle.saved.specs.Saved.{saved, contents}
 use Rattle.saved.specs.Older.{opened}
 use Rattle.saved.specs.Laws.{SavedLong, OpenAfterSave, OpenOver, OneForm, OldForm, SaveOpened, SavedOnce, OldOpens}
 use Rattle.limits.specs.Limits.{FewIn, FewItems, FewSaved, Agree, RefusesMore}
-use Rattle.order.specs.History.{callsIn, hopsIn, sumOver}
+use Rattle.poll_count.specs.Count.{counted}
+use Rattle.order.specs.History.{Turn, callsIn, hopsIn, sumOver}
+use Rattle.order.specs.RightRound.{before, after as afterTurn}
+use Rattle.order.specs.Through.{Every}
 use Rattle.order.specs.Owed.{owed}
 use Rattle.demands.specs.Calls.{Byte, numbers, Local, calledBy, put, hop, take, local, drain, owes, save, Call}
-use Rattle.demands.specs.Calls.{onArea, setUp, opens, decode, encode, Answer, plain, hopped, taken, owing}
-use Rattle.demands.specs.Calls.{saving, decoded, encoded, pilWith, pil, refusalIn, bare}
+use Rattle.demands.specs.Calls.{onArea, setUp, opens, onFrame, decode, encode, pollCount, Answer, plain, hopped}
+use Rattle.demands.specs.Calls.{taken, owing, saving, decoded, encoded, polled, pilWith, pil, refusalIn, bare}
 use Rattle.demands.specs.Conditions.{devicesAt, due}
 use Rattle.demands.specs.Drains.{byHops}
 use Rattle.demands.specs.Histories.{Step, away, stepped, areaLeft, framesPut, framesTaken, allHanded}
 use Rattle.demands.specs.Histories.{hopsBy, hopsMade, stepsRefused, turnsOf}
-use Rattle.demands.specs.Histories.{Drainless, turnsSeen, callsSeen, inTurn, allRound}
+use Rattle.demands.specs.Histories.{papers, Drainless, turnsSeen, callsSeen, inTurn, allRound}
 
 -- ---- Demand 1: every call is refused exactly by the table
 
@@ -127,12 +136,16 @@ pub record Obeys (model : Call → List ℕ → After Answer) : Type 0 where
       model (onArea (save out)) a ≡ after (saving 0 (saved a)) a
   pub opening : (s : List Byte) (a : List ℕ) → due (opens s) a ≡ 0 →
       model (opens s) a ≡ after (plain 0) (opened (numbers s))
-  -- the decoder answers a frame's kind, offset and C1, and the encoder, where it is not refused, the frame of these.
+  -- the decoder answers a frame's kind, offset and C1, and the encoder, where it is not refused, the frame of these;
   pub decodes : (f : ℕ) (a : List ℕ) → f < frames →
       let m = decoding f in
-      model (decode f) a ≡ after (decoded (record { offset = m .offset; refusal = 0; kind = m .kind; c1 = m .c1 })) a
-  pub encodes : (k o c : ℕ) (a : List ℕ) → due (encode k o c) a ≡ 0 →
-      model (encode k o c) a ≡ after (encoded (record { frame = frameOf (message k o c); refusal = 0 })) a
+      model (onFrame (decode f)) a ≡
+      after (decoded (record { offset = m .offset; refusal = 0; kind = m .kind; c1 = m .c1 })) a
+  pub encodes : (k o c : ℕ) (a : List ℕ) → due (onFrame (encode k o c)) a ≡ 0 →
+      model (onFrame (encode k o c)) a ≡ after (encoded (record { frame = frameOf (message k o c); refusal = 0 })) a
+  -- the count of a poll, where it is not refused, how many of an IDY's data bits are one, and which is the lowest.
+  pub counts : (f : ℕ) (a : List ℕ) → due (onFrame (pollCount f)) a ≡ 0 →
+      model (onFrame (pollCount f)) a ≡ after (polled (counted (decoding f .offset))) a
 
 -- That the published table has the decoding's kind at every frame is the contract of `published::kind`.
 pub record Demand2 : Type 0 where
@@ -302,8 +315,7 @@ abbrev pub FewFor : ℕ → Call → List ℕ → Type 0
 FewFor limit (onArea c) a = FewIn limit a
 FewFor limit (setUp items) a = FewItems limit a (numbers items)
 FewFor limit (opens s) a = FewSaved limit (numbers s)
-FewFor limit (decode f) a = Unit {0}
-FewFor limit (encode k o c) a = Unit {0}
+FewFor limit (onFrame c) a = Unit {0}
 
 pub record ThirtyOne : Type 1 where
   -- An area of 31 devices, here of ones that can do nothing, has no refusal, and 2,312 bytes; none is longer.
@@ -345,3 +357,66 @@ pub record RemoteLocal : Type 0 where
   pub key-only-unlocked : KeyOnlyUnlocked
   -- Every state is sound with either flag where local is with the flag clear, which is what zeros in the two bytes say.
   pub any-remote : AnyRemote
+
+-- ---- Parallel poll (02, f). What the status call stores and what the count answers, demand 2 says; that statuses may be
+-- set while frames are under way, demand 3.
+
+-- a device after local calls
+abbrev pub afterCalls : Device → List Local → Device
+afterCalls d [] = d
+afterCalls d (c ∷ cs) = afterCalls (calledBy c d .device) cs
+
+-- the data bits of IDYs after a device that they pass one after the other: each or-ed with the device's answer as its hop
+-- finds it, after the local calls that it accepted before
+abbrev pub answering : Device → List (Turn papers) → List ℕ → List ℕ
+answering d ts [] = []
+answering d ts (x ∷ xs) =
+    let e = afterCalls d (before ts) in bitOr x (answer e) ∷ answering e (afterTurn ts) xs
+
+-- and after all devices
+abbrev pub answeringAll : List Device → (ℕ → List (Turn papers)) → List ℕ → List ℕ
+answeringAll [] T xs = xs
+answeringAll (d ∷ ds) T xs = answeringAll ds (λ i. T (suc i)) (answering d (T 0) xs)
+
+abbrev pub dataBits : ℕ → ℕ
+dataBits f = decoding f .offset
+
+-- a history that puts nothing but IDYs, and has empty links before and after it
+pub record Polls (a : List ℕ) (ss : List Step) : Type 0 where
+  pub judged : Judged a
+  pub empty : AllEmpty a
+  pub empty-again : AllEmpty (areaLeft a ss)
+  pub idys : Every IsIdentify (framesPut a ss)
+
+-- IDYs are taken, as many as were put, with those data bits.
+pub record PolledRound (a : List ℕ) (ss : List Step) : Type 0 where
+  pub still-idys : Every IsIdentify (framesTaken a ss)
+  pub gathered : map dataBits (framesTaken a ss) ≡
+      answeringAll (loopOf a .devices) (turnsOf a ss) (map dataBits (framesPut a ss))
+
+-- Without local calls those are the bits that each came with, or-ed with every device's answer.
+abbrev pub AsTheyStood : Type 0
+AsTheyStood = (ds : List Device) (T : ℕ → List (Turn papers)) (xs : List ℕ) → ((i : ℕ) → callsIn (T i) ≡ []) →
+    answeringAll ds T xs ≡ map (λ x. polledBy x ds) xs
+
+pub record ParallelPoll : Type 0 where
+  -- Each sense, bit and status does what note 5 of the message table says; no bit that is one is cleared.
+  pub note-5 : Note5
+  pub idy-bits : IdyBits
+  -- PPE and PPD act at addressed listeners alone, PPE only with the ability, PPU at every device; no other message
+  -- changes sense and bit, and none the status.
+  pub assigning : Assigning
+  pub only-listeners : OnlyListeners
+  pub leaves-poll : LeavesPoll
+  -- Whatever the order of hops, with several IDYs under way at once, each gathers the devices' answers; where no status
+  -- is set meanwhile, those are the answers of the devices as they stood.
+  pub polled-round : (a : List ℕ) (ss : List Step) → Polls a ss → PolledRound a ss
+  pub as-they-stood : AsTheyStood
+  -- Several devices on one bit give the or of their statuses with sense 1, and the negated and with sense 0.
+  pub shared-or : SharedOr
+  pub shared-and : SharedAnd
+  -- A rack of eight fixtures, each on its own bit, reads as its eight statuses.
+  pub rack-reads : RackReads
+  -- With the ability every sense, bit and status is sound; without it zeros in their bytes are, as before, and no others.
+  pub any-poll : AnyPoll
+  pub no-poll : NoPoll

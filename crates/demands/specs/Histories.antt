@@ -25,8 +25,8 @@ use Rattle.order.specs.History.{Turn, hops, does, turns}
 use Rattle.order.specs.RightRound.{first, rightRound, oneByOne}
 use Rattle.order.specs.Through.{Every}
 use Rattle.demands.specs.Calls.{Byte, numbers, Local, calledBy, Action, put, hop, take, local, drain, owes, save}
-use Rattle.demands.specs.Calls.{Answer, plain, hopped, taken, drained, owing, saving, decoded, encoded, told}
-use Rattle.demands.specs.Calls.{acts, refusalIn}
+use Rattle.demands.specs.Calls.{Answer, plain, hopped, taken, drained, owing, saving, decoded, encoded, polled}
+use Rattle.demands.specs.Calls.{told, acts, refusalIn}
 
 -- ---- A history: one step after the other
 
@@ -86,6 +86,7 @@ takenBy c (owing r) = []
 takenBy c (saving k out) = []
 takenBy c (decoded r) = []
 takenBy c (encoded r) = []
+takenBy c (polled r) = []
 
 -- the device that a hop names
 abbrev pub hopper : Action → ℕ
@@ -115,6 +116,7 @@ handedBy i c (owing r) = []
 handedBy i c (saving k out) = []
 handedBy i c (decoded r) = []
 handedBy i c (encoded r) = []
+handedBy i c (polled r) = []
 
 -- the hops made: one by a hop that was not refused, and as many as a drain says
 abbrev pub hopsBy : Action → Answer → ℕ
@@ -126,6 +128,7 @@ hopsBy c (owing r) = 0
 hopsBy c (saving k out) = 0
 hopsBy c (decoded r) = 0
 hopsBy c (encoded r) = 0
+hopsBy c (polled r) = 0
 
 -- the refused steps
 abbrev pub refusedBy : Step → Answer → ℕ

@@ -4,7 +4,7 @@ use Prim.Native.Nat.{ℕ, _≤_, _<_}
 use mathlib.Core.Path.{_≡_}
 use mathlib.Core.Logic.{⊎-elim}
 use native.Mathlib.Omega.{arith}
-use Rattle.frame.specs.declared.Kind.the-variants.{Aad}
+use Rattle.frame.specs.declared.Kind.the-variants.{Aad, Ppe}
 use Rattle.frame.specs.Messages.{frames, messages, firstIn, firstOf, codesIn, codesOf}
 use Rattle.frame.specs.Decoding.{hasC1, offsetIn, decoded}
 use Rattle.frame.proofs.Rows.{within-kind, no-frame}
@@ -36,3 +36,7 @@ aad-codes f e = within-kind f 34 e (omega arith)
 pub aad-address : (f : ℕ) → Of Aad f → decoded f .offset < 31
 unfolding messages firstIn firstOf codesIn codesOf hasC1 offsetIn
 aad-address f e = let w = aad-codes f e in rw e (omega arith)
+
+pub ppe-number : (f : ℕ) → Of Ppe f → decoded f .offset < 16
+unfolding messages firstIn firstOf codesIn codesOf hasC1 offsetIn
+ppe-number f e = let w = within-kind f 17 e (omega arith) in rw e (omega arith)

@@ -1,9 +1,11 @@
 -- A DAB, END or IDY as it goes out, C1 set if service is 1: it is decoded as it was made, by the laws of the codes.
 use Prim.Native.Nat.{ℕ, _*_, _≤_, _<_}
-use mathlib.Core.Path.{_≡_, refl, sym, ap}
+use mathlib.Core.Path.{_≡_, refl, sym, ap, _∙_}
 use mathlib.Core.Bool.{true}
 use native.Mathlib.Omega.{arith}
+use lib.Bits.{or-lt}
 use lib.Dec.{eqb}
+use lib.Pow.{pow-lt}
 use borrow.Author.Tests.{eqb-false}
 use Rattle.frame.specs.Messages.{frames, kindAt}
 use Rattle.frame.specs.Decoding.{message, hasC1, decoded, frameOf}
@@ -12,6 +14,7 @@ use Rattle.frame.specs.declared.Message.{Message}
 use Rattle.frame.proofs.Rows.{within-kind}
 use Rattle.frame.proofs.Laws.{data-free, idy-free, Placed, placed, offsets-free, c1s-free, has, free}
 use Rattle.device.specs.Device.{sendingStatus, sendingDeviceID, asking}
+use Rattle.device.specs.Poll.{isAssigned, sense, bitNumber, answer, answered}
 use Rattle.device.specs.Reply.{withC1, marked, otherByte}
 use Rattle.device.specs.Sentences.{ShowsC1, OfBytes}
 use Rattle.device.specs.declared.Device.{Device}
@@ -64,6 +67,20 @@ other-small d b =
 pub set : {m : Message} → Shows m → Shows (withC1 m)
 set s = record { free = s .free; offset = s .offset; c1 = omega arith }
 
+-- a device's answer to a poll is a data bit, or none,
+pub answer-small : (d : Device) → answer d < 256
+unfolding answer
+answer-small d =
+    chosen (λ x. x < 256) (isAssigned d) _ _
+    (λ e. chosen (λ x. x < 256) (eqb (d .pollstatus) (sense d)) _ _
+    (λ s. pow-lt {i = bitNumber d} {j = 8} (omega arith)) (λ s. omega arith))
+    (λ e. omega arith)
+
+-- and with it the message still is one
+pub answers : (d : Device) {m : Message} → Shows m → Shows (answered d m)
+answers d {m} s =
+    record { free = s .free; offset = or-lt 8 (m .offset) (answer d) (s .offset) (answer-small d); c1 = s .c1 }
+
 -- it makes a frame that is decoded to it
 pub made : (m : Message) → Shows m → Placed m
 made m s =
@@ -99,6 +116,12 @@ module _ (d : Device) (m : Message) where
     marked-asks a =
         chosen ShowsC1 (eqb (d .service) asking) (frameOf (withC1 m)) (frameOf m)
         (λ e. ap (λ (n : Message). n .c1) (made (withC1 m) (set s) .again)) (λ e. absurd (eqb-false _ _ e a))
+
+    -- and one that is set stays
+    pub marked-keeps : m .c1 ≡ 1 → ShowsC1 (marked d m)
+    marked-keeps h =
+        either ShowsC1 (ap (λ (n : Message). n .c1) (made m s .again) ∙ h)
+        (ap (λ (n : Message). n .c1) (made (withC1 m) (set s) .again))
 
   -- C1 is not cleared
   pub marked-same : m .c1 ≡ 1 → marked d m ≡ frameOf m

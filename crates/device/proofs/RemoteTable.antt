@@ -8,6 +8,7 @@ use Rattle.device.specs.Choose.{choose}
 use Rattle.device.specs.PowerOn.{bytesFrom, powerOn}
 use Rattle.device.specs.Clear.{toListener}
 use Rattle.device.specs.Remote.{moves, toRemote, llo, gtl, key}
+use Rattle.device.specs.Poll.{ppe, ppd, answer}
 use Rattle.device.specs.Commands.{lad, tad, aau}
 use Rattle.device.specs.Reply.{marked}
 use Rattle.device.specs.Ready.{requested, sst, nrd, aad}
@@ -30,8 +31,8 @@ unfolding messages kindAt lookup within firstIn firstOf hasC1 offsetIn c1In choo
 moving-each = (refl, (refl, (refl, (refl, (refl, (refl, (refl, (refl, tt))))))))
 
 staying-holds : Holds staying
-unfolding messages kindAt lookup within firstIn firstOf hasC1 offsetIn c1In choose bytesFrom powerOn toListener lad tad
-    aau marked requested sst nrd aad heard dataOrEnd takes
+unfolding messages kindAt lookup within firstIn firstOf hasC1 offsetIn c1In choose bytesFrom powerOn toListener ppe ppd
+    lad tad aau answer marked requested sst nrd aad heard dataOrEnd takes
 staying-holds = refl
 
 both : (rs ss : List Line) → Holds rs → Holds ss → Holds (rs ++ ss)

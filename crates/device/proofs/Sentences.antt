@@ -5,6 +5,7 @@ use mathlib.Core.Path.{_≡_, refl, sym, ap, _∙_}
 use mathlib.Core.Bool.{Bool, true, false, and-false}
 use mathlib.Core.Logic.{_⊎_, inl, inr, ⊎-elim}
 use native.Mathlib.Omega.{arith}
+use lib.Bits.{or-zero-r}
 use lib.Dec.{eqb}
 use lib.ListN.{getD}
 use borrow.Author.Tests.{ltb-true, lt-ltb, eq-eqb, ne-eqb}
@@ -21,6 +22,7 @@ use Rattle.device.specs.Device.{listen, unaddress, idle, addressed, send
 use Rattle.device.specs.Device.{has as able}
 use Rattle.device.specs.Change.{talking}
 use Rattle.device.specs.Remote.{toRemote, llo, gtl, key}
+use Rattle.device.specs.Poll.{unassigned, answer, answered}
 use Rattle.device.specs.Commands.{lad, tad}
 use Rattle.device.specs.Clear.{toListener}
 use Rattle.device.specs.Reply.{eto, ete, withC1, marked, stops, dataFrame, sendsData, continues}
@@ -39,8 +41,9 @@ use Rattle.device.specs.Sent.{Sent}
 use Rattle.device.proofs.Classes.{data-frame, idy-frame}
 use Rattle.device.proofs.Chosen.{chosen}
 use Rattle.device.proofs.Marked.{Shows, data-shows, idy-shows, reply, set, made, marked-kind, marked-code}
-use Rattle.device.proofs.Marked.{marked-bits, marked-same}
+use Rattle.device.proofs.Marked.{answers, marked-bits, marked-same, marked-keeps}
 use Rattle.device.proofs.Told.{told}
+use Rattle.device.proofs.Untouched.{Plain, untouched}
 
 pub commands-go-on : CommandsGoOn
 commands-go-on d f c = told d f .command c
@@ -143,18 +146,28 @@ own-compared d f s i =
 code-of : (j k x : ℕ) → k ≡ j → CodeOf k x → CodeOf j x
 code-of j k x e w = rw e at w
 
+-- no bit is assigned, and none is added
+no-answer : (d : Device) → d .assigned ≡ unassigned → answer d ≡ 0
+unfolding answer choose
+no-answer d a = rw a
+
 pub idy-goes-on : IdyGoesOn
 unfolding messages firstIn firstOf codesIn codesOf
 idy-goes-on =
     record {
       not-handed = λ d f i. rw (idy-frame d f (i .first) (i .past));
       still-idy =
-          λ d f i. let w = marked-code d (decoded f) (idy-shows f (i .first) (i .past)) in
-          let v = code-of idy (kindAt f) (marked d (decoded f)) (idy-kind f (i .first) (i .past)) w in
+          λ d f i. let m = answered d (decoded f) in
+          let w = marked-code d m (answers d (idy-shows f (i .first) (i .past))) in
+          let v = code-of idy (kindAt f) (marked d m) (idy-kind f (i .first) (i .past)) w in
           rw (idy-frame d f (i .first) (i .past)) (record { first = omega (arith, v .0); past = omega (arith, v .1) });
-      same-bits =
+      answered-bits =
           λ d f i. rw (idy-frame d f (i .first) (i .past))
-          (marked-bits d (decoded f) (idy-shows f (i .first) (i .past)));
+          (marked-bits d (answered d (decoded f)) (answers d (idy-shows f (i .first) (i .past))));
+      same-bits =
+          λ d f a i. rw (idy-frame d f (i .first) (i .past))
+          (marked-bits d (answered d (decoded f)) (answers d (idy-shows f (i .first) (i .past)))
+          ∙ rw (no-answer d a) (or-zero-r (decoded f .offset)));
       same-device = λ d f i. rw (idy-frame d f (i .first) (i .past));
     }
 
@@ -211,7 +224,8 @@ c1-kept =
     record {
       on-data = λ d f t i h. rw (data-frame d f (i .past)) (dataOrEnd-same d f t (data-shows f (i .past)) h);
       on-idy =
-          λ d f i h. rw (idy-frame d f (i .first) (i .past)) (passed d f (idy-shows f (i .first) (i .past)) h);
+          λ d f i h. rw (idy-frame d f (i .first) (i .past))
+          (marked-keeps d (answered d (decoded f)) (answers d (idy-shows f (i .first) (i .past))) h);
     }
 
 pub leaving-zeroes : LeavingZeroes
@@ -241,8 +255,23 @@ events-change-nothing d f (inl e) = rw e
 events-change-nothing d f (inr (inl e)) = rw e (listener-leaves d f Clear)
 events-change-nothing d f (inr (inr e)) = rw e (listener-leaves d f Trigger)
 
+-- state and flag
+remote-plain : Plain {A = ℕ × ℕ} (λ (x : Device). (x .remote, x .enabled))
+remote-plain =
+    record {
+      listening = λ d x. refl;
+      talking = λ d x. refl;
+      placed = λ d x y. refl;
+      serving = λ d x. refl;
+      noting = λ d. refl;
+      counting = λ d x y z. refl;
+    }
+
 pub others-leave-remote : OthersLeaveRemote
-others-leave-remote d f n = told d f .same n
+others-leave-remote d f n =
+    let e = untouched {A = ℕ × ℕ} (λ (x : Device). (x .remote, x .enabled)) remote-plain d f (λ r. absurd (n r))
+    (λ a d x. refl) in
+    record { remote = ap (λ (p : ℕ × ℕ). p .0) e; enabled = ap (λ (p : ℕ × ℕ). p .1) e }
 
 pub ifc-leaves-remote : IfcLeavesRemote
 unfolding takes choose

@@ -4,6 +4,7 @@ use Rattle.frame.specs.Messages.{messages, kindAt, lookup, within, firstIn, fir
 use Rattle.frame.specs.Decoding.{hasC1, offsetIn, c1In}
 use Rattle.device.specs.Choose.{choose}
 use Rattle.device.specs.PowerOn.{bytesFrom, powerOn}
+use Rattle.device.specs.Poll.{answer}
 use Rattle.device.specs.Commands.{lad, tad, aau}
 use Rattle.device.specs.Reply.{marked, dataFrame, otherByte, otherLength, sendsData, sendsOther, continues}
 use Rattle.device.specs.Ready.{requested, polls, sst, nrd, aad}
@@ -13,6 +14,6 @@ use Rattle.device.specs.Rows.{Rows}
 
 pub rows : Rows
 unfolding messages kindAt lookup within firstIn firstOf hasC1 offsetIn c1In choose bytesFrom powerOn lad tad aau
-    marked dataFrame otherByte otherLength sendsData sendsOther continues requested polls sst nrd aad returned heard
-    dataOrEnd takes
+    answer marked dataFrame otherByte otherLength sendsData sendsOther continues requested polls sst nrd aad returned
+    heard dataOrEnd takes
 rows = refl

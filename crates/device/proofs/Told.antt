@@ -16,9 +16,10 @@ use Rattle.frame.proofs.Rows.{within-kind}
 use Rattle.frame.proofs.Laws.{idy-kind}
 use Rattle.device.specs.Choose.{choose}
 use Rattle.device.specs.Device.{listen, status, autoAddress, unaddress, idle, addressed, sendingData}
-use Rattle.device.specs.Device.{sendingStatus, asking, endLast, has, talks, sending}
+use Rattle.device.specs.Device.{sendingStatus, asking, endLast, parallelPoll, has, hasFurther, talks, sending}
 use Rattle.device.specs.Change.{listening, talking, placed, counting}
 use Rattle.device.specs.Remote.{toRemote, llo, gtl}
+use Rattle.device.specs.Poll.{ppe, ppd}
 use Rattle.device.specs.Commands.{lad, tad, aau}
 use Rattle.device.specs.Clear.{reports, toListener}
 use Rattle.device.specs.Reply.{eto, ete, sends, marked, stops, dataFrame, otherByte, otherFrame, otherLength}
@@ -27,7 +28,6 @@ use Rattle.device.specs.Ready.{requested, polls, sst, nrd, aad}
 use Rattle.device.specs.Data.{returned, heard, dataOrEnd}
 use Rattle.device.specs.Take.{rules, takes}
 use Rattle.device.specs.Sentences.{Of, ShowsC1, Sending, ShowsService, OfBytes, Zeroed, ClearDue, TriggerDue}
-use Rattle.device.specs.Sentences.{SameRemote, MovesRemote}
 use Rattle.device.specs.declared.Device.{Device}
 use Rattle.device.specs.declared.Handed.{Handed}
 use Rattle.device.specs.declared.Handed.the-variants.{Nothing, Byte, Clear, Trigger}
@@ -35,8 +35,8 @@ use Rattle.device.specs.Sent.{Sent}
 use Rattle.device.proofs.Dispatch.{outside, elsewhere}
 use Rattle.device.proofs.Classes.{data-frame, idy-frame, aad-codes}
 use Rattle.device.proofs.Chosen.{chosen, selected}
-use Rattle.device.proofs.Marked.{Shows, shows, data-shows, idy-shows, reply, other-small, marked-kind}
-use Rattle.device.proofs.Marked.{marked-asks}
+use Rattle.device.proofs.Marked.{Shows, shows, data-shows, idy-shows, answers, reply, other-small}
+use Rattle.device.proofs.Marked.{marked-kind, marked-asks}
 
 -- e has d's talker state, or bytes 8, 14, 15, 16 zero
 abbrev pub Left : Device → Device → Type 0
@@ -48,7 +48,6 @@ pub record Told (d : Device) (f : ℕ) (s : Sent) : Type 0 where
   pub unhanded : Sending d → (b e : ℕ) → s .handed ≡ Byte b e → ⊥
   pub cleared : s .handed ≡ Clear → ClearDue d f
   pub triggered : s .handed ≡ Trigger → TriggerDue d f
-  pub same : (MovesRemote f → ⊥) → SameRemote d (s .device)
   pub left : Sending d → Left d (s .device)
   pub shown : OfBytes d → s .device .service ≡ asking → ShowsService (s .frame) → ShowsC1 (s .frame)
   pub asked : OfBytes d → (d .choice ≡ endLast → ⊥) → Of End (s .frame) → Of End f × (d .talker ≤ addressed)
@@ -62,9 +61,6 @@ case (Byte b e) = 3
 
 apart : {h k : Handed} {Q : Type 0} → (case h ≡ case k → ⊥) → h ≡ k → Q
 apart n e = absurd (n (ap case e))
-
-unmoved : (d : Device) → SameRemote d d
-unmoved d = record { remote = refl; enabled = refl }
 
 stays : (d e : Device) → e .talker ≡ d .talker → Left d e
 stays d e q n = absurd (n q)
@@ -144,6 +140,17 @@ module _ (d : Device) where
   unfolding gtl
   gtl-left = chosen (Left d) (eqb (d .listener) 1) _ d (λ h. stays d _ refl) (λ h. stays d d refl)
 
+  ppe-left : (s : ℕ) → Left d (ppe d s)
+  unfolding ppe
+  ppe-left s =
+      chosen (Left d) (eqb (d .listener) 1) _ d
+      (λ h. chosen (Left d) (hasFurther d parallelPoll) _ d (λ a. stays d _ refl) (λ a. stays d d refl))
+      (λ h. stays d d refl)
+
+  ppd-left : Left d (ppd d)
+  unfolding ppd
+  ppd-left = chosen (Left d) (eqb (d .listener) 1) _ d (λ h. stays d _ refl) (λ h. stays d d refl)
+
   tad-left : (a : ℕ) → Left d (tad d a)
   unfolding tad
   tad-left a =
@@ -153,31 +160,6 @@ module _ (d : Device) where
       (λ u. zeroes d d addressed))
       (λ h. zeroes d d idle))
       (λ e. zeroes d d idle)
-
-  tad-same : (a : ℕ) → SameRemote d (tad d a)
-  unfolding tad
-  tad-same a =
-      chosen (SameRemote d) (eqb a (d .address)) _ _
-      (λ e. chosen (SameRemote d) (talks d) _ _
-      (λ h. chosen (SameRemote d) (has d unaddress) _ _ (λ u. record { remote = refl; enabled = refl })
-      (λ u. record { remote = refl; enabled = refl }))
-      (λ h. record { remote = refl; enabled = refl }))
-      (λ e. record { remote = refl; enabled = refl })
-
-  aau-same : SameRemote d (aau d)
-  unfolding aau
-  aau-same =
-      chosen (SameRemote d) (has d autoAddress) _ d (λ h. record { remote = refl; enabled = refl }) (λ h. unmoved d)
-
-  nrd-same : SameRemote d (nrd d)
-  unfolding nrd
-  nrd-same = chosen (SameRemote d) (sending d) _ d (λ h. record { remote = refl; enabled = refl }) (λ h. unmoved d)
-
-  polls-same : SameRemote d (polls d)
-  unfolding polls
-  polls-same =
-      chosen (SameRemote d) (eqb (d .service) asking) _ d (λ h. record { remote = refl; enabled = refl })
-      (λ h. unmoved d)
 
   aau-left : Left d (aau d)
   unfolding aau
@@ -200,14 +182,13 @@ module _ (d : Device) (f : ℕ) (n : IsCommand f → ⊥) where
         unhanded = λ s b e q. apart (λ x. omega arith) (sym (k s) ∙ q);
         cleared = apart (λ e. ⊎-elim (λ x. omega arith) (λ x. omega arith) z);
         triggered = apart (λ e. ⊎-elim (λ x. omega arith) (λ x. omega arith) z);
-        same = λ o. unmoved d;
         left = λ s. stays d d refl;
         shown = λ b a s. marked-asks d m i a;
         asked = λ b c e. p (sym (marked-kind d m i) ∙ e);
       }
 
   -- the device e, which is d or is made of d, answers or replies
-  module _ (e : Device) (p : SameRemote d e) where
+  module _ (e : Device) where
     stops-told : (x : ℕ) → 0x400 ≤ x → x < 0x600 → Told d f (stops e x)
     stops-told x l h =
         record {
@@ -215,7 +196,6 @@ module _ (d : Device) (f : ℕ) (n : IsCommand f → ⊥) where
           unhanded = λ s b e. apart (λ z. omega arith);
           cleared = apart (λ e. omega arith);
           triggered = apart (λ e. omega arith);
-          same = λ o. record { remote = p .remote; enabled = p .enabled };
           left = λ s. zeroes d e addressed;
           shown = λ b a s. absurd (no-service x l h s);
           asked = λ b c e. absurd (no-end x l e);
@@ -231,7 +211,6 @@ module _ (d : Device) (f : ℕ) (n : IsCommand f → ⊥) where
               unhanded = λ s b e. apart (λ z. omega arith);
               cleared = apart (λ e. omega arith);
               triggered = apart (λ e. omega arith);
-              same = λ o. record { remote = p .remote; enabled = p .enabled };
               left = λ s. stays d _ (same s);
               shown = λ b a s. h (bytes b) a;
               asked = λ b c i. absurd (o (bytes b) (λ u. c (sym q ∙ u)) i);
@@ -257,9 +236,9 @@ module _ (d : Device) (f : ℕ) (n : IsCommand f → ⊥) where
   unfolding returned
   returned-told m =
       chosen (Told d f) _ _ _
-      (λ e. chosen (Told d f) (eqb (d .noted) 1) _ _ (λ e. stops-told d (unmoved d) eto (omega arith) (omega arith))
-      (λ e. continues-told d (unmoved d) (λ s. refl) (λ b. b) refl))
-      (λ e. stops-told d (unmoved d) ete (omega arith) (omega arith))
+      (λ e. chosen (Told d f) (eqb (d .noted) 1) _ _ (λ e. stops-told d eto (omega arith) (omega arith))
+      (λ e. continues-told d (λ s. refl) (λ b. b) refl))
+      (λ e. stops-told d ete (omega arith) (omega arith))
 
   heard-told : (m : Message) → Shows m → (m .kind ≡ end → Of End f) → d .talker ≤ addressed → Told d f (heard d m)
   unfolding heard
@@ -277,21 +256,20 @@ module _ (d : Device) (f : ℕ) (n : IsCommand f → ⊥) where
 -- ---- frames that go on unchanged where no rule says otherwise
 
 module _ (d : Device) (f : ℕ) (q : ShowsService f → ⊥) where
-  passes : (e : Device) → Left d e → ((MovesRemote f → ⊥) → SameRemote d e) → Told d f (sends e f)
-  passes e l p =
+  passes : (e : Device) → Left d e → Told d f (sends e f)
+  passes e l =
       record {
         command = λ c. refl;
         unhanded = λ s b e. apart (λ z. omega arith);
         cleared = apart (λ e. omega arith);
         triggered = apart (λ e. omega arith);
-        same = p;
         left = λ s. l;
         shown = λ b a s. absurd (q s);
         asked = λ b c e. absurd (q (inl (record { past = end-past f e })));
       }
 
   still : Told d f (sends d f)
-  still = passes d (stays d d refl) (λ o. unmoved d)
+  still = passes d (stays d d refl)
 
   -- a clear or a trigger
   events : (h : Handed) → (case h ≡ 3 → ⊥) → (h ≡ Clear → ClearDue d f) → (h ≡ Trigger → TriggerDue d f) →
@@ -302,7 +280,6 @@ module _ (d : Device) (f : ℕ) (q : ShowsService f → ⊥) where
         unhanded = λ s b e. apart z;
         cleared = c;
         triggered = t;
-        same = λ o. unmoved d;
         left = λ s. stays d d refl;
         shown = λ b a s. absurd (q s);
         asked = λ b c e. absurd (q (inl (record { past = end-past f e })));
@@ -337,7 +314,6 @@ module _ (d : Device) (f : ℕ) (q : ShowsService f → ⊥) where
             unhanded = λ s b e. apart (λ z. omega arith);
             cleared = apart (λ e. omega arith);
             triggered = apart (λ e. omega arith);
-            same = λ o. record { remote = refl; enabled = refl };
             left = λ s. stays d _ refl;
             shown = λ b a s. absurd (no-service (f + 1) (omega arith) (omega arith) s);
             asked = λ b c e. absurd (no-end (f + 1) (omega arith) e);
@@ -345,24 +321,23 @@ module _ (d : Device) (f : ℕ) (q : ShowsService f → ⊥) where
 
   module _ (n : IsCommand f → ⊥) where
     -- only an addressed device starts a reply, and that one is not sending
-    starts : (able : Bool) (e : Device) → SameRemote d e → (OfBytes d → OfBytes e) → e .choice ≡ d .choice →
+    starts : (able : Bool) (e : Device) → (OfBytes d → OfBytes e) → e .choice ≡ d .choice →
         Told d f (choose (eqb (d .talker) addressed) (choose able (continues e) (sends d f)) (sends d f))
-    starts able e p b c =
+    starts able e b c =
         chosen (Told d f) (eqb (d .talker) addressed) _ _
         (λ t. chosen (Told d f) able _ _
-        (λ h. continues-told d f n e p (λ s. omega (arith, eqb-true (d .talker) addressed t)) b c) (λ h. still))
+        (λ h. continues-told d f n e (λ s. omega (arith, eqb-true (d .talker) addressed t)) b c) (λ h. still))
         (λ t. still)
 
     requested-told : (ability state : ℕ) → Told d f (requested d f ability state)
     unfolding requested
     requested-told ability state =
-        starts (has d ability) (talking d state) (record { remote = refl; enabled = refl }) (kept d state) refl
+        starts (has d ability) (talking d state) (kept d state) refl
 
     sst-told : Told d f (sst d f)
     unfolding sst
     sst-told =
-        let p = polls-same d in
-        starts (has d status) (talking (polls d) sendingStatus) (record { remote = p .remote; enabled = p .enabled })
+        starts (has d status) (talking (polls d) sendingStatus)
         (λ b. kept (polls d) sendingStatus (polls-kept d b)) (polls-choice d)
 
   no-command : (k : ℕ) → outside 0x400 0x500 k ≡ true → kindAt f ≡ k → IsCommand f → ⊥
@@ -373,29 +348,32 @@ module _ (d : Device) (f : ℕ) (q : ShowsService f → ⊥) where
   unfolding takes messages firstIn firstOf codesIn codesOf hasC1
   rules-told =
       selected (Told d f) (kindAt f) (rules d f (decoded f)) (sends d f) still
-      (λ e. passes _ (lad-left d _) (λ o. absurd (o (inr (inr (inl e))))))
-      (λ e. passes _ (stays d _ refl) (λ o. record { remote = refl; enabled = refl }))
-      (λ e. passes _ (tad-left d _) (λ o. tad-same d _))
-      (λ e. passes _ (zeroes d d idle) (λ o. record { remote = refl; enabled = refl }))
-      (λ e. passes _ (zeroes d (listening d 0) idle) (λ o. record { remote = refl; enabled = refl }))
-      (λ e. passes _ (aau-left d) (λ o. aau-same d))
+      (λ e. passes _ (lad-left d _))
+      (λ e. passes _ (stays d _ refl))
+      (λ e. passes _ (tad-left d _))
+      (λ e. passes _ (zeroes d d idle))
+      (λ e. passes _ (zeroes d (listening d 0) idle))
+      (λ e. passes _ (aau-left d))
       (λ e. dcl-told e)
       (λ e. sdc-told e)
       (λ e. get-told e)
-      (λ e. passes _ (stays d _ refl) (λ o. absurd (o (inl e))))
-      (λ e. passes _ (stays d _ refl) (λ o. absurd (o (inr (inl e)))))
-      (λ e. passes _ (llo-left d) (λ o. absurd (o (inr (inr (inr (inl e)))))))
-      (λ e. passes _ (gtl-left d) (λ o. absurd (o (inr (inr (inr (inr e)))))))
+      (λ e. passes _ (stays d _ refl))
+      (λ e. passes _ (stays d _ refl))
+      (λ e. passes _ (llo-left d))
+      (λ e. passes _ (gtl-left d))
+      (λ e. passes _ (ppe-left d _))
+      (λ e. passes _ (ppd-left d))
+      (λ e. passes _ (stays d _ refl))
       (λ e. requested-told (no-command _ refl e) _ _)
       (λ e. sst-told (no-command _ refl e))
       (λ e. requested-told (no-command _ refl e) _ _)
       (λ e. requested-told (no-command _ refl e) _ _)
-      (λ e. passes _ (nrd-left d) (λ o. nrd-same d))
+      (λ e. passes _ (nrd-left d))
       (λ e. aad-told e _)
       (λ e. dataOrEnd-told d f (no-command _ refl e) _ (shows f (ap hasC1 e)) (λ k. k))
       (λ e. dataOrEnd-told d f (no-command _ refl e) _ (shows f (ap hasC1 e)) (λ k. k))
-      (λ e. marks d f (no-command _ refl e) _ (shows f (ap hasC1 e)) (λ k. absurd (omega (arith, e, k))) Nothing
-      (inl refl) (λ s. refl))
+      (λ e. marks d f (no-command _ refl e) _ (answers d (shows f (ap hasC1 e))) (λ k. absurd (omega (arith, e, k)))
+      Nothing (inl refl) (λ s. refl))
 
 shows? : (f : ℕ) → Dec (ShowsService f)
 shows? f = go (decLt f 0x400) (decLt f 0x600) (decLt f 0x800)
@@ -414,6 +392,6 @@ told d f = go (shows? f)
         rw (data-frame d f (i .past)) (dataOrEnd-told d f (λ c. omega arith) _ (data-shows f (i .past)) (λ k. k))
     go (yes (inr i)) =
         rw (idy-frame d f (i .first) (i .past))
-        (marks d f (λ c. omega arith) _ (idy-shows f (i .first) (i .past))
+        (marks d f (λ c. omega arith) _ (answers d (idy-shows f (i .first) (i .past)))
         (λ k. absurd (omega (arith, idy-kind f (i .first) (i .past), k))) Nothing (inl refl) (λ s. refl))
     go (no q) = rules-told d f q

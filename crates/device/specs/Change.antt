@@ -51,6 +51,12 @@ enabled = 18
 abbrev pub choice : ℕ
 choice = 19
 
+abbrev pub assigned : ℕ
+assigned = 22
+
+abbrev pub pollstatus : ℕ
+pollstatus = 23
+
 -- a value, by its place, and what becomes of it
 pub record Edit : Type 0 where
   pub place : ℕ
@@ -76,6 +82,7 @@ remade d es load =
       listener = after es listener (d .listener);
       talker = after es talker (d .talker);
       service = after es service (d .service);
+      further = d .further;
       noted = after es noted (d .noted);
       status = after es status (d .status);
       accessory = d .accessory;
@@ -87,6 +94,8 @@ remade d es load =
       remote = after es remote (d .remote);
       enabled = after es enabled (d .enabled);
       choice = after es choice (d .choice);
+      assigned = after es assigned (d .assigned);
+      pollstatus = after es pollstatus (d .pollstatus);
       id = d .id;
       load = load;
     }
@@ -139,3 +148,11 @@ loading d bs e =
 -- status s
 abbrev pub statusing : Device → ℕ → Device
 statusing d s = changed d (status becomes s ∷ [])
+
+-- sense and bit x, as byte 22 holds them
+abbrev pub assigning : Device → ℕ → Device
+assigning d x = changed d (assigned becomes x ∷ [])
+
+-- poll status s
+abbrev pub pollstatusing : Device → ℕ → Device
+pollstatusing d s = changed d (pollstatus becomes s ∷ [])

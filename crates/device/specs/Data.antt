@@ -1,4 +1,5 @@
--- Data or end, and identify (01, What a device does with a frame; 02, b and g): the rules see a frame's decoding alone.
+-- Data or end, and identify (01, What a device does with a frame; 02, b, f and g): the rules see a frame's decoding
+-- alone.
 use Prim.Native.Nat.{ℕ}
 use mathlib.Core.Bool.{Bool, _&&_, cond}
 use lib.Dec.{eqb}
@@ -6,6 +7,7 @@ use Rattle.frame.specs.Decoding.{end, decoded}
 use Rattle.frame.specs.declared.Message.{Message}
 use Rattle.device.specs.Choose.{choose}
 use Rattle.device.specs.Device.{sending}
+use Rattle.device.specs.Poll.{answered}
 use Rattle.device.specs.Reply.{eto, ete, sends, marked, stops, continues}
 use Rattle.device.specs.declared.Device.{Device}
 use Rattle.device.specs.Sent.{Sent}
@@ -39,6 +41,6 @@ heard d m =
 unfoldable pub dataOrEnd : Device → Message → Sent
 dataOrEnd d m = choose (sending d) (returned d m) (heard d m)
 
--- IDY goes on in every state
+-- IDY goes on in every state, with the device's answer to the poll (02, f)
 abbrev pub idy : Device → Message → Sent
-idy d m = sends d (marked d m)
+idy d m = sends d (marked d (answered d m))

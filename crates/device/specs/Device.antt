@@ -30,6 +30,10 @@ unaddress = 64
 abbrev pub serviceRequest : ℕ
 serviceRequest = 128
 
+-- further abilities, those of byte 7 (02, f)
+abbrev pub parallelPoll : ℕ
+parallelPoll = 1
+
 -- talker states
 abbrev pub idle : ℕ
 idle = 0
@@ -96,6 +100,10 @@ mostData = 32
 -- the device has the ability
 abbrev pub has : Device → ℕ → Bool
 has d ability = not (eqb (bitAnd (d .abilities) ability) 0)
+
+-- it has the further ability
+abbrev pub hasFurther : Device → ℕ → Bool
+hasFurther d ability = not (eqb (bitAnd (d .further) ability) 0)
 
 -- it has at least one of 2, 4, 8, 16
 abbrev pub talks : Device → Bool

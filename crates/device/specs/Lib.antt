@@ -5,6 +5,7 @@ pub mod PowerOn
 pub mod Change
 pub mod Sent
 pub mod Remote
+pub mod Poll
 pub mod Commands
 pub mod Reply
 pub mod Clear
@@ -14,3 +15,5 @@ pub mod Take
 pub mod Sentences
 pub mod Rows
 pub mod RemoteTable
+pub mod PollSentences
+pub mod PollTable

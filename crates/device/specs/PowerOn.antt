@@ -1,5 +1,5 @@
--- A device at power-on, from its set-up item (01, The calls): abilities, fixed address, accessory ID, ID length, 8 ID
--- bytes.
+-- A device at power-on, from its set-up item (01, The calls; 02, f): abilities, fixed address, accessory ID, ID length,
+-- 8 ID bytes and, where the item has 13 bytes, the further abilities, which are 0 where it has 12.
 use Prim.Native.Nat.{ℕ, zero, suc}
 use mathlib.Core.List.{List, [], _∷_}
 use lib.ListN.{getD, replicate}
@@ -22,6 +22,7 @@ powerOn item =
       listener = 0;
       talker = idle;
       service = noService;
+      further = getD item 12 0;
       noted = 0;
       status = 0;
       accessory = getD item 2 0;
@@ -33,6 +34,8 @@ powerOn item =
       remote = LOCS;
       enabled = 0;
       choice = plainLast;
+      assigned = 0;
+      pollstatus = 0;
       id = bytesFrom 4 mostID item;
       load = replicate mostData 0;
     }

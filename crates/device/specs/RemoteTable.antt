@@ -17,8 +17,8 @@ RIDS = 0
 abbrev pub RACS : ℕ
 RACS = 1
 
--- a device at address 5: a listener with every ability; one that could be, and can do nothing else; one that can do all
--- but listen
+-- a device at address 5: a listener with every ability of byte 0; one that could be, and can do nothing else; one that
+-- can do all but listen
 abbrev pub at5 : (abilities listener : ℕ) → Device
 at5 a l = listening (placed (powerOn (a ∷ 0x1f ∷ [])) 5 1) l
 

@@ -1,10 +1,11 @@
--- Sentences of 01, "What a device does with a frame", in its order, and of 02, b, d and h: each holds for every frame
+-- Sentences of 01, "What a device does with a frame", in its order, and of 02, b, d, f and h: each holds for every frame
 -- that it speaks of and every device, sound or not, but for those that ask for bytes. Proved in proofs/Sentences.antt.
 use Prim.Native.Nat.{ℕ, _+_, _≤_, _<_}
 use mathlib.Core.Path.{_≡_}
 use mathlib.Core.Bool.{true}
 use mathlib.Core.Logic.{_⊎_}
 use lib.Dec.{eqb}
+use lib.Bits.{bitOr}
 use lib.ListN.{getD}
 use Rattle.frame.specs.declared.Kind.{Kind}
 use Rattle.frame.specs.declared.Kind.the-variants.{End, Gtl, Sdc, Get, Llo, Dcl, Lad, Tad, Ifc, Ren, Nre, Sda, Aad}
@@ -15,6 +16,7 @@ use Rattle.device.specs.Choose.{choose}
 use Rattle.device.specs.Device.{sendData, idle, addressed, sendingData, asking, REMS, endLast, noAddress}
 use Rattle.device.specs.Device.{has}
 use Rattle.device.specs.Change.{talking}
+use Rattle.device.specs.Poll.{unassigned, answer}
 use Rattle.device.specs.Reply.{eto, ete, sends, withC1, stops, continues}
 use Rattle.device.specs.Remote.{key}
 use Rattle.device.specs.Take.{takes}
@@ -71,11 +73,14 @@ pub record Compared (d : Device) (f : ℕ) : Type 0 where
 abbrev pub OwnCompared : Type 0
 OwnCompared = (d : Device) (f : ℕ) → Sending d → IsData f → Compared d f
 
--- IDY goes on in every state, its data bits unchanged; it is handed to nobody, and leaves the device as it was.
+-- IDY goes on in every state, its data bits or-ed with the device's answer (02, f), and so unchanged where it has no
+-- sense and bit; it is handed to nobody, and leaves the device as it was.
 pub record IdyGoesOn : Type 0 where
   pub not-handed : (d : Device) (f : ℕ) → IsIdentify f → takes d f .handed ≡ Nothing
   pub still-idy : (d : Device) (f : ℕ) → IsIdentify f → IsIdentify (takes d f .frame)
-  pub same-bits : (d : Device) (f : ℕ) → IsIdentify f →
+  pub answered-bits : (d : Device) (f : ℕ) → IsIdentify f →
+      decoded (takes d f .frame) .offset ≡ bitOr (decoded f .offset) (answer d)
+  pub same-bits : (d : Device) (f : ℕ) → d .assigned ≡ unassigned → IsIdentify f →
       decoded (takes d f .frame) .offset ≡ decoded f .offset
   pub same-device : (d : Device) (f : ℕ) → IsIdentify f → takes d f .device ≡ d
 
@@ -117,10 +122,10 @@ ServiceShown =
     (d : Device) (f : ℕ) → OfBytes d → takes d f .device .service ≡ asking → ShowsService (takes d f .frame) →
     ShowsC1 (takes d f .frame)
 
--- C1 is never cleared on a frame passed: with C1 set, data, end and IDY go on as they came.
+-- C1 is never cleared on a frame passed: with C1 set, data and end go on as they came, and IDY with it set.
 pub record C1Kept : Type 0 where
   pub on-data : (d : Device) (f : ℕ) → d .talker ≤ addressed → IsData f → ShowsC1 f → takes d f .frame ≡ f
-  pub on-idy : (d : Device) (f : ℕ) → IsIdentify f → ShowsC1 f → takes d f .frame ≡ f
+  pub on-idy : (d : Device) (f : ℕ) → IsIdentify f → ShowsC1 f → ShowsC1 (takes d f .frame)
 
 -- Leaving states 2-5 zeroes bytes 8, 14, 15, 16.
 pub record Zeroed (d : Device) : Type 0 where

@@ -1,11 +1,11 @@
 -- What a device does with a frame of each kind: a rule a kind, and every kind without a rule goes on unchanged. A frame
--- is decoded once, here, and the rules take its address, data bits, end bit and C1 from that (02, g).
+-- is decoded once, here, and the rules take its address, sense and bit, data bits, end bit and C1 from that (02, g).
 use Prim.Native.Nat.{ℕ}
 use mathlib.Core.List.{List, [], _∷_}
 use lib.Dec.{eqb}
 use Rattle.frame.specs.declared.Kind.{Kind}
 use Rattle.frame.specs.declared.Kind.the-variants.{Dab, End, Lad, Unl, Tad, Unt, Ifc, Aau, Nrd, Sda, Sst, Sdi, Sai, Aad}
-use Rattle.frame.specs.declared.Kind.the-variants.{Idy, Gtl, Sdc, Get, Llo, Dcl, Ren, Nre}
+use Rattle.frame.specs.declared.Kind.the-variants.{Idy, Gtl, Sdc, Get, Llo, Dcl, Ren, Nre, Ppe, Ppd, Ppu}
 use Rattle.frame.specs.Messages.{numberOf}
 use Rattle.frame.specs.Decoding.{decoded}
 use Rattle.frame.specs.declared.Message.{Message}
@@ -14,6 +14,7 @@ use Rattle.device.specs.Device.{sendData, deviceID, accessoryID, sending
 use Rattle.device.specs.Commands.{lad, unl, tad, unt, ifc, aau}
 use Rattle.device.specs.Clear.{dcl, sdc, get}
 use Rattle.device.specs.Remote.{ren, nre, llo, gtl}
+use Rattle.device.specs.Poll.{ppe, ppd, ppu}
 use Rattle.device.specs.Reply.{sends}
 use Rattle.device.specs.Ready.{requested, sst, nrd, aad}
 use Rattle.device.specs.Data.{dataOrEnd, idy}
@@ -43,6 +44,9 @@ rules d f m =
     on Nre (sends (nre d) f) ∷
     on Llo (sends (llo d) f) ∷
     on Gtl (sends (gtl d) f) ∷
+    on Ppe (sends (ppe d (m .offset)) f) ∷
+    on Ppd (sends (ppd d) f) ∷
+    on Ppu (sends (ppu d) f) ∷
     on Sda (requested d f sendData sendingData) ∷
     on Sst (sst d f) ∷
     on Sdi (requested d f deviceID sendingDeviceID) ∷

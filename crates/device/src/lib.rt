@@ -11,6 +11,7 @@ pub struct Device {
     pub listener: u8,
     pub talker: u8,
     pub service: u8,
+    pub further: u8,
     pub noted: u8,
     pub status: u8,
     pub accessory: u8,
@@ -22,6 +23,8 @@ pub struct Device {
     pub remote: u8,
     pub enabled: u8,
     pub choice: u8,
+    pub assigned: u8,
+    pub pollstatus: u8,
     pub id: [u8; Device::MOST_ID],
     pub load: [u8; Device::MOST_DATA],
 }
@@ -51,6 +54,9 @@ impl Device {
     pub const UNADDRESS: u8 = 64;
 
     pub const SERVICE_REQUEST: u8 = 128;
+
+    // Further abilities, as byte 7 adds them up.
+    pub const PARALLEL_POLL: u8 = 1;
 
     // Talker states.
     pub const IDLE: u8 = 0;
@@ -86,6 +92,11 @@ impl Device {
 
     pub const END_LAST: u8 = 1;
 
+    // What byte 22 has in front of PPE's sense and bit, and where none are assigned.
+    pub const ASSIGNMENT: u8 = 16;
+
+    pub const UNASSIGNED: u8 = 0;
+
     // The fixed address of a device that has none, and limits: bytes of ID and of data, and past any last frame sent.
     pub const NO_ADDRESS: u8 = 31;
 
@@ -95,8 +106,8 @@ impl Device {
 
     pub const PAST_LAST: u16 = 0x400;
 
-    // The device of a set-up item: abilities, fixed address, accessory ID, ID length, ID.
-    pub fn power_on(item: [u8; 12]) -> Self
+    // The device of a set-up item: abilities, fixed address, accessory ID, ID length, ID, further abilities.
+    pub fn power_on(item: [u8; 13]) -> Self
         ensures { λ r. ⌜ r ≡ powerOn item ⌝ }
     {
         Self {
@@ -107,6 +118,7 @@ impl Device {
             listener: 0,
             talker: Self::IDLE,
             service: Self::NO_SERVICE,
+            further: item[12],
             noted: 0,
             status: 0,
             accessory: item[2],
@@ -118,6 +130,8 @@ impl Device {
             remote: Self::LOCS,
             enabled: 0,
             choice: Self::PLAIN_LAST,
+            assigned: 0,
+            pollstatus: 0,
             id: [
                 item[4],
                 item[5],

@@ -4,3 +4,4 @@ pub mod Arms
 pub mod Every
 pub mod Laws
 pub mod Table
+pub mod Bits

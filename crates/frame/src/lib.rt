@@ -4,7 +4,8 @@ ghost use mathlib.Core.Path.{_≡_};
 ghost use Prim.Native.Nat.{_<_};
 ghost use Rattle.frame.specs.Messages.{kinds, kindAt, numberOf, firstOf};
 ghost use Rattle.frame.specs.Classes.{IsData};
-ghost use Rattle.frame.specs.Decoding.{message, hasC1, decoded, offsetsOf, c1sOf, WithC1, Coded};
+ghost use Rattle.frame.specs.Decoding.{message, idy, hasC1, decoded, offsetsOf, c1sOf, frameOf, WithC1};
+ghost use Rattle.frame.specs.Decoding.{Coded};
 ghost use Rattle.frame.specs.Coding.{decodeOf, encodeOf};
 
 // Frames are the numbers below this.
@@ -338,6 +339,14 @@ pub fn data_of(frame: u16) -> Message
     ensures { λ r. ⌜ r ≡ decoded frame ⌝ }
 {
     with_c1(DAB + (frame / C2) as u8, frame)
+}
+
+// The IDY of these data bits and C1.
+pub fn idy_of(bits: u8, c1: u8) -> u16
+    requires { ⌜ c1 < 2 ⌝ }
+    ensures { λ r. ⌜ r ≡ frameOf (message idy bits c1) ⌝ }
+{
+    first(IDY as usize) + bits as u16 + C1 * c1 as u16
 }
 
 // The offset of a frame in its kind, a kind of the list without C1.

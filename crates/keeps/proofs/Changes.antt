@@ -9,10 +9,11 @@ use lib.Dec.{ltb}
 use borrow.Author.Tests.{eq-eqb, lt-ltb}
 use Rattle.device.specs.Device.{has, talks, mostData}
 use Rattle.device.specs.Change.{listening, talking, placed, serving, noting, remoting, enabling, choosing, loading}
-use Rattle.device.specs.Change.{statusing}
+use Rattle.device.specs.Change.{statusing, assigning, pollstatusing}
 use Rattle.device.specs.declared.Device.{Device}
 use Rattle.device.proofs.Bytes.{bytes-wide}
 use Rattle.record.specs.Fits.{Bytes}
+use Rattle.record.specs.Sound.{pollRight}
 use Rattle.record.proofs.Bytes.{bytes-small}
 use Rattle.keeps.proofs.Zeros.{padded-zero}
 use Rattle.keeps.proofs.Groups.{Kept, Talks, eq-in, lt-in, only-in}
@@ -50,6 +51,7 @@ module _ (d : Device) (k : Kept d) where
         remotes = k .remotes;
         loads = k .loads;
         talks = k .talks;
+        polls = k .polls;
       }
 
   -- idle or addressed
@@ -64,6 +66,7 @@ module _ (d : Device) (k : Kept d) where
         remotes = k .remotes;
         loads = k .loads;
         talks = rested d x m h;
+        polls = k .polls;
       }
 
   -- the fixed address and unconfigured, or an address 0-30 and configured
@@ -85,6 +88,7 @@ module _ (d : Device) (k : Kept d) where
         remotes = k .remotes;
         loads = k .loads;
         talks = k .talks;
+        polls = k .polls;
       }
 
   pub serving-kept : (x : ℕ) → x ≤ 2 → (0 < x → has d 128 ≡ true) → Kept (serving d x)
@@ -98,6 +102,7 @@ module _ (d : Device) (k : Kept d) where
         remotes = k .remotes;
         loads = k .loads;
         talks = k .talks;
+        polls = k .polls;
       }
 
   pub noting-kept : 1 < d .talker → Kept (noting d)
@@ -128,6 +133,7 @@ module _ (d : Device) (k : Kept d) where
               none = t .none;
               quiet = λ e. absurd (omega arith);
             };
+        polls = k .polls;
       }
 
   -- data for a device that is not sending any: what is past its end is zero
@@ -176,6 +182,7 @@ module _ (d : Device) (k : Kept d) where
               none = t .none;
               quiet = t .quiet;
             };
+        polls = k .polls;
       }
 
   pub remoting-kept : (x : ℕ) → x ≤ 3 → Kept (remoting d x)
@@ -189,6 +196,7 @@ module _ (d : Device) (k : Kept d) where
         remotes = record { remote = h; enabled = k .remotes .enabled };
         loads = k .loads;
         talks = k .talks;
+        polls = k .polls;
       }
 
   pub enabling-kept : (x : ℕ) → x ≤ 1 → Kept (enabling d x)
@@ -202,6 +210,7 @@ module _ (d : Device) (k : Kept d) where
         remotes = record { remote = k .remotes .remote; enabled = h };
         loads = k .loads;
         talks = k .talks;
+        polls = k .polls;
       }
 
   pub choosing-kept : (e : ℕ) → e ≤ 1 → Kept (choosing d e)
@@ -217,6 +226,7 @@ module _ (d : Device) (k : Kept d) where
         loads =
             record { loadlength = l .loadlength; loadzero = l .loadzero; able = l .able; sent = l .sent; choice = h };
         talks = k .talks;
+        polls = k .polls;
       }
 
   pub statusing-kept : (s : ℕ) → s < 256 → Kept (statusing d s)
@@ -239,4 +249,33 @@ module _ (d : Device) (k : Kept d) where
         remotes = k .remotes;
         loads = k .loads;
         talks = k .talks;
+        polls = k .polls;
+      }
+
+  pub assigning-kept : (x : ℕ) → pollRight (assigning d x) ≡ true → Kept (assigning d x)
+  assigning-kept x h =
+      record {
+        sized = k .sized;
+        made = k .made;
+        placed = k .placed;
+        listens = k .listens;
+        serves = k .serves;
+        remotes = k .remotes;
+        loads = k .loads;
+        talks = k .talks;
+        polls = h;
+      }
+
+  pub pollstatusing-kept : (s : ℕ) → pollRight (pollstatusing d s) ≡ true → Kept (pollstatusing d s)
+  pollstatusing-kept s h =
+      record {
+        sized = k .sized;
+        made = k .made;
+        placed = k .placed;
+        listens = k .listens;
+        serves = k .serves;
+        remotes = k .remotes;
+        loads = k .loads;
+        talks = k .talks;
+        polls = h;
       }

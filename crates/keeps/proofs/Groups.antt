@@ -1,20 +1,20 @@
--- Soundness, sorted by what a change touches: eight groups of facts, each of which reads only some of the fields. A
+-- Soundness, sorted by what a change touches: nine groups of facts, each of which reads only some of the fields. A
 -- change leaves the groups alone that do not read what it changes.
 use Prim.Native.Nat.{ℕ, _≤_, _<_}
 use mathlib.Core.Path.{_≡_, refl}
-use mathlib.Core.Bool.{Bool, true, false, not, _&&_}
+use mathlib.Core.Bool.{Bool, true, false, not, _&&_, _||_}
 use mathlib.Core.List.{List, [], _∷_}
 use native.Mathlib.Omega.{arith}
 use native.Mathlib.Decide.{decLt}
 use lib.Dec.{eqb, ltb, leb}
 use lib.ListN.{length, drop}
 use borrow.Author.Tests.{eqb-true, leb-true, ltb-true, ltb-false, not-true, eq-eqb, le-leb, lt-ltb, le-ltb}
-use Rattle.device.specs.Device.{has, talks}
+use Rattle.device.specs.Device.{parallelPoll, has, hasFurther, talks}
 use Rattle.device.specs.declared.Device.{Device}
 use Rattle.record.specs.Record.{zeros}
 use Rattle.record.specs.Sound.{only, inRange, zeroPast, serviceWithStatus, unaddressWithBoth, unconfiguredFixed}
 use Rattle.record.specs.Sound.{configuredAble, listenerAble, serviceAble, sendingAble, addressedAble, dataAble}
-use Rattle.record.specs.Sound.{sentWithin, repliedRight, quietOutside, lastBelow, soundDevice}
+use Rattle.record.specs.Sound.{sentWithin, repliedRight, quietOutside, lastBelow, isAssignment, pollRight, soundDevice}
 use Rattle.record.specs.Fits.{Bytes, Fits, Good}
 use Rattle.record.proofs.Both.{left, right, both-true}
 
@@ -98,6 +98,33 @@ pub record Kept (d : Device) : Type 0 where
   pub remotes : Remotes d
   pub loads : Loads d
   pub talks : Talks d
+  pub polls : pollRight d ≡ true
+
+-- ---- what the clause on poll says
+
+pub record Polled (d : Device) : Type 0 where
+  pub further : d .further ≤ 1
+  pub assignment : isAssignment (d .assigned) ≡ true
+  pub assigned : d .assigned ≤ 31
+  pub status : d .pollstatus ≤ 1
+  pub able : only (not (hasFurther d parallelPoll)) (eqb (d .assigned) 0 && eqb (d .pollstatus) 0) ≡ true
+
+assigned-few : (x : ℕ) → isAssignment x ≡ true → x ≤ 31
+assigned-few x h = go (eqb x 0) refl h
+  where
+    go : (b : Bool) → eqb x 0 ≡ b → (b || (leb 16 x && leb x 31)) ≡ true → x ≤ 31
+    go true e i = omega (arith, eqb-true x 0 e)
+    go false e i = leb-true x 31 (right (leb 16 x) (leb x 31) i)
+
+pub polled-of : (d : Device) → pollRight d ≡ true → Polled d
+polled-of d h =
+    record {
+      further = leb-true (d .further) 1 (search left);
+      assignment = search (left, right);
+      assigned = assigned-few (d .assigned) (search (left, right));
+      status = leb-true (d .pollstatus) 1 (search (left, right));
+      able = search (left, right);
+    }
 
 -- ---- `only`, in and out
 
@@ -161,7 +188,7 @@ clauses d =
     inRange d ∷ zeroPast d ∷ serviceWithStatus d ∷ unaddressWithBoth d ∷ unconfiguredFixed d ∷ configuredAble d ∷
     listenerAble d ∷
     serviceAble d ∷ sendingAble d ∷ addressedAble d ∷ dataAble d ∷ sentWithin d ∷ repliedRight d ∷ quietOutside d ∷
-    lastBelow d ∷ []
+    lastBelow d ∷ pollRight d ∷ []
 
 abbrev ranges : Device → List Bool
 ranges d =
@@ -268,6 +295,7 @@ module _ (d : Device) (g : Good d) where
               choice = leb-true _ _ (range .1 .1 .1 .1 .1 .1 .1 .1 .1 .1 .1 .0);
             };
         talks = talked;
+        polls = sounds .1 .1 .1 .1 .1 .1 .1 .1 .1 .1 .1 .1 .1 .1 .1 .0;
       }
 
 module _ (d : Device) (k : Kept d) where
@@ -353,7 +381,7 @@ module _ (d : Device) (k : Kept d) where
                         k .loads .able,
                         (
                           both-true (le-leb _ _ (k .loads .sent)) (eq-in (λ e. le-leb _ _ (k .talks .some e))),
-                          (counts-of, (quiet-of, (lt-ltb _ _ (k .talks .last), tt))),
+                          (counts-of, (quiet-of, (lt-ltb _ _ (k .talks .last), (k .polls, tt)))),
                         ),
                       ),
                     ),
@@ -377,6 +405,9 @@ module _ (d : Device) (k : Kept d) where
       go (no l) (no m) (yes h) = omega (arith, k .talks .within (omega arith), k .made .idlength)
       go (no l) (no m) (no h) = omega (arith, k .talks .one5 (omega (arith, k .talks .talker)))
 
+  polled : Polled d
+  polled = polled-of d (k .polls)
+
   fits-of : Fits d
   fits-of =
       record {
@@ -387,6 +418,7 @@ module _ (d : Device) (k : Kept d) where
         listener = omega (arith, k .listens .listener);
         talker = omega (arith, k .talks .talker);
         service = omega (arith, k .serves .service);
+        further = omega (arith, polled .further);
         noted = omega (arith, k .talks .noted);
         status = k .sized .status;
         accessory = k .sized .accessory;
@@ -398,6 +430,8 @@ module _ (d : Device) (k : Kept d) where
         remote = omega (arith, k .remotes .remote);
         enabled = omega (arith, k .remotes .enabled);
         choice = omega (arith, k .loads .choice);
+        assigned = omega (arith, polled .assigned);
+        pollstatus = omega (arith, polled .status);
         id = k .sized .id;
         load = k .sized .load;
         idsize = k .sized .idsize;

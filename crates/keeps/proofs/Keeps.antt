@@ -12,7 +12,7 @@ use Rattle.frame.specs.Messages.{kindAt}
 use Rattle.frame.specs.Decoding.{hasC1, decoded}
 use Rattle.frame.specs.declared.Message.{Message}
 use Rattle.device.specs.Choose.{choose}
-use Rattle.device.specs.Device.{has, talks, sendData, status, isChoice, sending}
+use Rattle.device.specs.Device.{has, hasFurther, talks, sendData, status, parallelPoll, isChoice, sending}
 use Rattle.device.specs.Change.{listening, talking, remoting}
 use Rattle.device.specs.Remote.{ren, nre, moves, toRemote, llo, gtl, key}
 use Rattle.device.specs.Commands.{lad, tad, ifc, aau}
@@ -21,20 +21,22 @@ use Rattle.device.specs.Reply.{sends, marked, eto, ete}
 use Rattle.device.specs.Ready.{requested, polls, sst, nrd, aad}
 use Rattle.device.specs.Data.{returned, heard, dataOrEnd}
 use Rattle.device.specs.Take.{rules, takes}
-use Rattle.record_local.specs.Local.{loads, setsStatus, wishing, wishes}
+use Rattle.record_local.specs.Local.{loads, setsStatus, wishing, wishes, yesOrNo, setsPollStatus}
 use Rattle.device.specs.declared.Device.{Device}
 use Rattle.device.specs.declared.Handed.{Handed}
 use Rattle.device.specs.Sentences.{Of}
-use Rattle.device.proofs.Classes.{aad-codes, aad-address}
+use Rattle.device.proofs.Classes.{aad-codes, aad-address, ppe-number}
 use Rattle.device.proofs.Chosen.{chosen, selected}
-use Rattle.device.proofs.Marked.{Shows, shows, marked-below}
+use Rattle.device.proofs.Marked.{Shows, shows, answers, marked-below}
 use Rattle.record_local.specs.Local.{Called}
 use Rattle.record.specs.Fits.{Good}
 use Rattle.keeps.specs.Keeps.{TakeKeeps, TakeBelow, LoadKeeps, StatusKeeps, WishKeeps, LastIsData}
-use Rattle.keeps.specs.Keeps.{ChoiceKeeps, KeyKeeps, GoodOfBytes}
-use Rattle.keeps.proofs.Groups.{Kept, kept-of, good-of, lt-out}
+use Rattle.keeps.specs.Keeps.{ChoiceKeeps, KeyKeeps, PollStatusKeeps, GoodOfBytes}
+use Rattle.keeps.proofs.Groups.{Kept, polled-of, kept-of, good-of, lt-out}
 use Rattle.keeps.proofs.Changes.{listening-kept, resting-kept, placed-kept, serving-kept, noting-kept}
 use Rattle.keeps.proofs.Changes.{remoting-kept, enabling-kept, loading-kept, choosing-kept, statusing-kept}
+use Rattle.keeps.proofs.Changes.{pollstatusing-kept}
+use Rattle.keeps.proofs.Polls.{able-poll, none-kept, ppe-kept, ppd-kept}
 use Rattle.keeps.proofs.Replies.{Out, others, Sends, stops-out, continues-out}
 
 -- the frame goes on, and the device after it is sound
@@ -284,6 +286,9 @@ take-out d f k =
     (λ e. passes _ f (nre-kept d k))
     (λ e. passes _ f (llo-kept d k))
     (λ e. passes _ f (gtl-kept d k))
+    (λ e. passes _ f (ppe-kept d k _ (ppe-number f e)))
+    (λ e. passes _ f (ppd-kept d k))
+    (λ e. passes _ f (none-kept d k))
     (λ e. requested-out d k f 2 2 (to-data d k))
     (λ e. sst-out d k f)
     (λ e. requested-out d k f 8 4 (to-id d k))
@@ -292,7 +297,7 @@ take-out d f k =
     (λ e. aad-out d k f e)
     (λ e. data-out d k f _ (shows f (ap hasC1 e)))
     (λ e. data-out d k f _ (shows f (ap hasC1 e)))
-    (λ e. marked-out d k f _ (shows f (ap hasC1 e)))
+    (λ e. marked-out d k f _ (answers d (shows f (ap hasC1 e))))
 
 -- ---- the theorems
 
@@ -338,6 +343,21 @@ wish-good d w g =
 
 pub key-good : KeyKeeps
 key-good d g = good-of _ (key-kept d (kept-of d g))
+
+-- any number but 0 is yes
+yes-few : (s : ℕ) → yesOrNo s ≤ 1
+unfolding yesOrNo
+yes-few s = chosen (λ x. x ≤ 1) (eqb s 0) _ _ (λ e. omega arith) (λ e. omega arith)
+
+pub poll-status-good : PollStatusKeeps
+unfolding setsPollStatus
+poll-status-good d s g =
+    let k = kept-of d g in
+    let p = polled-of d (k .polls) in
+    chosen (λ (c : Called). Good (c .device)) (hasFurther d parallelPoll) _ _
+    (λ a. good-of _ (pollstatusing-kept d k (yesOrNo s) (able-poll d p (d .assigned) (yesOrNo s) a (p .assignment)
+    (yes-few s))))
+    (λ a. g)
 
 pub last-is-data : LastIsData
 last-is-data d g = record { past = omega (arith, kept-of d g .talks .last) }

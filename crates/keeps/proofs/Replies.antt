@@ -15,6 +15,7 @@ use Rattle.device.specs.Reply.{continues}
 use Rattle.device.specs.Sentences.{OfBytes}
 use Rattle.device.specs.declared.Device.{Device}
 use Rattle.device.specs.Sent.{Sent}
+use Rattle.record.specs.Sound.{pollRight}
 use Rattle.device.proofs.Chosen.{chosen}
 use Rattle.device.proofs.Marked.{reply, other-small, marked-code}
 use Rattle.keeps.proofs.Groups.{Kept, Sized, Made, Placed, Listens, Serves, Remotes, Loads}
@@ -36,6 +37,7 @@ Others d =
       serves : Serves d;
       remotes : Remotes d;
       loads : Loads d;
+      polls : pollRight d ≡ true;
     }
 
 pub others : (d : Device) → Kept d → Others d
@@ -48,6 +50,7 @@ others d k =
       serves = k .serves;
       remotes = k .remotes;
       loads = k .loads;
+      polls = k .polls;
     }
 
 -- a device that may send: in a sending state with its ability
@@ -145,6 +148,7 @@ module _ (d : Device) (o : Others d) (s : Sends d) where
               none = λ i. s .none e;
               quiet = λ i. absurd (omega arith);
             };
+        polls = o .polls;
       }
 
   other-kept : (d .talker ≡ 2 → ⊥) → d .replied < otherLength d → Kept (sendsOther d .device)
@@ -175,6 +179,7 @@ module _ (d : Device) (o : Others d) (s : Sends d) where
               none = λ i. let z : d .talker ≡ 2 = omega (arith, s .low) in absurd (n z);
               quiet = λ i. absurd (omega (arith, s .low));
             };
+        polls = o .polls;
       }
 
   -- it stops with an answer below 2,048
@@ -191,6 +196,7 @@ module _ (d : Device) (o : Others d) (s : Sends d) where
               remotes = o .remotes;
               loads = o .loads;
               talks = rested d 1 (omega arith) (λ i. sends-talks d s);
+              polls = o .polls;
             };
         frame = λ i. h;
       }

@@ -7,7 +7,7 @@ use Rattle.device.specs.Change.{choosing}
 use Rattle.device.specs.Take.{takes}
 use Rattle.frame.specs.Classes.{IsData}
 use Rattle.device.specs.Sentences.{OfBytes}
-use Rattle.record_local.specs.Local.{loads, setsStatus, wishes, presses}
+use Rattle.record_local.specs.Local.{loads, setsStatus, wishes, presses, setsPollStatus}
 use Rattle.device.specs.declared.Device.{Device}
 use Rattle.record.specs.Fits.{Bytes, Good}
 
@@ -35,6 +35,9 @@ WishKeeps = (d : Device) (w : ℕ) → Good d → Good (wishes d w .device)
 
 abbrev pub KeyKeeps : Type 0
 KeyKeeps = (d : Device) → Good d → Good (presses d .device)
+
+abbrev pub PollStatusKeeps : Type 0
+PollStatusKeeps = (d : Device) (s : ℕ) → Good d → Good (setsPollStatus d s .device)
 
 -- What a sound device holds: the last frame that it sent is a data byte, and what it can reply with is bytes
 abbrev pub LastIsData : Type 0

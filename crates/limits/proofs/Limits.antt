@@ -8,11 +8,12 @@ use lib.Dec.{eqb, leb}
 use lib.ListN.{length}
 use borrow.Author.Tests.{eqb-true, le-leb}
 use Rattle.record.proofs.Both.{left, right, never}
-use Rattle.area.specs.Sizes.{isCount, itemSize, areaSize}
+use Rattle.area.specs.Sizes.{isCount, areaSize}
 use Rattle.area.specs.Loop.{Loop, countIn, shapedWith, judgeWith}
 use Rattle.area.proofs.Areas.{judge-zero, is-shaped}
 use Rattle.calls.specs.Outcome.{Outcome, after, callWith}
-use Rattle.calls.specs.SetUp.{devicesFor, itemsFit, setUpWith}
+use Rattle.calls.specs.SetUp.{devicesFor, isItems, itemsFit, setUpWith}
+use Rattle.calls.proofs.Powered.{items-least}
 use Rattle.saved.specs.Saved.{saved, savedSize, savedCount, edition, headed, formed}
 use Rattle.saved.specs.Calls.{badSave, saveWith, openWith}
 use Rattle.saved.proofs.Formed.{count-saved}
@@ -36,16 +37,16 @@ module _ (smaller larger : ℕ) (le : smaller ≤ larger) where
       itemsFit smaller n a items ≡ itemsFit larger n a items
   unfolding itemsFit
   same-items n a items few =
-      same-count n (eqb (length a) (areaSize n) && eqb (length items) (itemSize * n)) (at-most few)
+      same-count n (eqb (length a) (areaSize n) && isItems (length items) n) (at-most few)
     where
       at-most : FewItems smaller a items →
-          (eqb (length a) (areaSize n) && eqb (length items) (itemSize * n)) ≡ true → n ≤ smaller
+          (eqb (length a) (areaSize n) && isItems (length items) n) ≡ true → n ≤ smaller
       at-most (FewItems.by-area h) e =
-          let l = left (eqb (length a) (areaSize n)) (eqb (length items) (itemSize * n)) e in
+          let l = left (eqb (length a) (areaSize n)) (isItems (length items) n) e in
           omega (arith, h, eqb-true (length a) (areaSize n) l)
       at-most (FewItems.by-items h) e =
-          let r = right (eqb (length a) (areaSize n)) (eqb (length items) (itemSize * n)) e in
-          omega (arith, h, eqb-true (length items) (itemSize * n) r)
+          let r = right (eqb (length a) (areaSize n)) (isItems (length items) n) e in
+          omega (arith, h, items-least (length items) n r)
 
   same-form : (s : List ℕ) → FewSaved smaller s → formed smaller s ≡ formed larger s
   unfolding formed

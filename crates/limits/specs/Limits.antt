@@ -16,7 +16,7 @@ pub data FewIn (limit : ℕ) (a : List ℕ) : Type 0 where
   by-count : countIn a ≤ limit → FewIn limit a
   by-length : length a ≤ areaSize limit → FewIn limit a
 
--- an area and items for at most so many, by the length of either
+-- an area and items for at most so many, by the length of either; no item has fewer bytes than 12
 pub data FewItems (limit : ℕ) (a items : List ℕ) : Type 0 where
   by-area : length a ≤ areaSize limit → FewItems limit a items
   by-items : length items ≤ itemSize * limit → FewItems limit a items

@@ -1,6 +1,7 @@
 -- The set-up of line 1: refused but for a number of devices that a loop can have, and otherwise the same whatever the
 -- area held before.
-use Prim.Native.Nat.{ℕ, _+_, _*_, _≤_, _<_}
+use Prim.Native.Nat.{ℕ, _+_, _-_, _*_, _≤_, _<_}
+use mathlib.Core.Logic.{⊎-elim}
 use mathlib.Core.Path.{_≡_, refl, ap, _∙_}
 use mathlib.Core.List.{List, [], _∷_, map}
 use mathlib.Core.Bool.{Bool, true, false, _&&_, cond}
@@ -18,8 +19,8 @@ use Rattle.area.specs.Parts.{all, join}
 use Rattle.area.specs.Loop.{shape, unsound, areaOf}
 use Rattle.area.proofs.Parts.{length-join, length-parts}
 use Rattle.calls.specs.Outcome.{after}
-use Rattle.calls.specs.SetUp.{devicesFor, itemsOf, itemsFit, poweredOn, setUpOf, setUpWith}
-use Rattle.calls.proofs.Powered.{set-up-sound, items-fit as what-fits}
+use Rattle.calls.specs.SetUp.{devicesFor, isItems, itemWidth, itemsOf, itemsFit, poweredOn, setUpOf, setUpWith}
+use Rattle.calls.proofs.Powered.{width-either, width-all, set-up-sound, items-fit as what-fits}
 use Rattle.text.specs.Words.{loopWord, begins}
 use Rattle.text.specs.Digits.{numberAt}
 use Rattle.script.specs.Script.{wordSize, devicesIn, groupsIn, groupSize, groupRight, loopRight, itemOf, itemsIn}
@@ -44,13 +45,22 @@ set-up-refused a items n e no-fit = go (itemsFit mostDevices (devicesFor (length
         (after shape a) ≡ after shape a
     go false p = refl
     go true p =
-        let f = what-fits mostDevices (devicesFor (length a)) a items p in
-        absurd (no-fit (omega (arith, f .some, f .items)) (omega (arith, f .few, f .items)))
+        let m = devicesFor (length a) in
+        let f = what-fits mostDevices m a items p in
+        let l = width-all (length items) m (f .items) in
+        ⊎-elim
+        (λ w. let h : length items ≡ 12 * m = rw w at l in
+        absurd (no-fit (omega (arith, f .some)) (omega (arith, f .few))))
+        (λ w. let h : length items ≡ 13 * m = rw w at l in
+        let q : 12 * (n - m) ≡ m = omega arith in
+        let k : n - m ≤ 2 = omega (arith, f .few) in
+        absurd (no-fit (omega (arith, f .some)) (omega arith)))
+        (width-either (length items) m)
 
 -- the right number
 pub items-fit : (a items : List ℕ) (n : ℕ) → 1 ≤ n → n ≤ mostDevices → length a ≡ areaSize n →
     length items ≡ itemSize * n → itemsFit mostDevices n a items ≡ true
-unfolding itemsFit
+unfolding itemsFit isItems
 items-fit a items n s f l e =
     rw (le-leb 1 n s, le-leb n mostDevices f, eq-eqb (length a) (areaSize n) l, eq-eqb (length items) (itemSize * n) e)
 
@@ -70,7 +80,7 @@ powered items n s f e b h =
       loop = poweredOn n items;
       sound = set-up-sound mostDevices n a items b (items-fit a items n s f (length-replicate (areaSize n) 0) e) h;
       is = refl;
-      count = length-map (itemsOf n items) powerOn ∙ length-parts itemSize n items;
+      count = length-map (itemsOf n items) powerOn ∙ length-parts (itemWidth (length items) n) n items;
     }
 
 -- ---- the items are bytes

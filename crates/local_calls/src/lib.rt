@@ -1,5 +1,5 @@
-// The local calls on an area: load data, set status, wish for service, press the panel key. The device is found by its
-// number, and the call is made in its record (record_local).
+// The local calls on an area: load data, set status, wish for service, press the panel key, set the poll status. The
+// device is found by its number, and the call is made in its record (record_local).
 use area::SHAPE;
 use area::UNSOUND;
 use area::lookup::record_start;
@@ -12,7 +12,7 @@ ghost use mathlib.Core.Path.{_≡_};
 ghost use mathlib.Core.Bool.{cond};
 ghost use Rattle.area.specs.Loop.{shape, unsound, shaped};
 ghost use Rattle.calls.specs.Outcome.{Is};
-ghost use Rattle.calls.specs.Calls.{loadOf, statusOf, wishOf, keyOf};
+ghost use Rattle.calls.specs.Calls.{loadOf, statusOf, wishOf, keyOf, pollStatusOf};
 
 // The refusal of a choice that is neither plain nor END: it counts as unsound, so that the area's shape comes before.
 fn no_choice(area: &[u8]) -> u8
@@ -71,6 +71,18 @@ pub fn key(area: &mut [u8], device: u64) -> u8
         Found::At(i) => {
             let at = record_start(area, i);
             record_local::key(&mut area[at..at + SIZE])
+        }
+    }
+}
+
+pub fn poll_status(area: &mut [u8], device: u64, status: u64) -> u8
+    ensures { λ r. ⌜ Is (pollStatusOf (now (area .entry)) device status) r (now (area .exit)) ⌝ }
+{
+    match find(area, device) {
+        Found::Refused(wrong) => wrong,
+        Found::At(i) => {
+            let at = record_start(area, i);
+            record_local::poll_status(&mut area[at..at + SIZE], status)
         }
     }
 }

@@ -7,15 +7,17 @@ use calls::TakeAnswer;
 use coding::DecodeAnswer;
 use coding::EncodeAnswer;
 use device::Device;
+use poll_count::PollAnswer;
 ghost use mathlib.Core.Path.{_≡_};
 ghost use Rattle.device.specs.Device.{endLast};
 ghost use Rattle.calls.specs.Outcome.{Is};
-ghost use Rattle.calls.specs.Calls.{putOf, takeOf, hopOf, loadOf, statusOf, wishOf, keyOf};
+ghost use Rattle.calls.specs.Calls.{putOf, takeOf, hopOf, loadOf, statusOf, wishOf, keyOf, pollStatusOf};
 ghost use Rattle.calls.specs.Drain.{drainOf};
 ghost use Rattle.calls.specs.Owed.{owedOf};
 ghost use Rattle.calls.specs.SetUp.{setUpOf};
 ghost use Rattle.saved.specs.Calls.{saveOf, openOf};
 ghost use Rattle.coding.specs.Coding.{decodeAnswer, encodeAnswer};
+ghost use Rattle.poll_count.specs.Count.{pollCount};
 
 #[no_mangle]
 pub extern "C" fn pil_set_up(area: &mut [u8], items: &[u8]) -> u8
@@ -89,6 +91,13 @@ pub extern "C" fn pil_key(area: &mut [u8], device: u64) -> u8
 }
 
 #[no_mangle]
+pub extern "C" fn pil_poll_status(area: &mut [u8], device: u64, status: u64) -> u8
+    ensures { λ r. ⌜ Is (pollStatusOf (now (area .entry)) device status) r (now (area .exit)) ⌝ }
+{
+    local_calls::poll_status(area, device, status)
+}
+
+#[no_mangle]
 pub extern "C" fn pil_owed(area: &[u8]) -> OwedAnswer
     ensures { λ r. ⌜ r ≡ owedOf (now (area .entry)) ⌝ }
 {
@@ -107,6 +116,13 @@ pub extern "C" fn pil_encode(kind: u64, offset: u64, c1: u64) -> EncodeAnswer
     ensures { λ r. ⌜ r ≡ encodeAnswer kind offset c1 ⌝ }
 {
     coding::encode(kind, offset, c1)
+}
+
+#[no_mangle]
+pub extern "C" fn pil_poll_count(frame: u64) -> PollAnswer
+    ensures { λ r. ⌜ r ≡ pollCount frame ⌝ }
+{
+    poll_count::poll_count(frame)
 }
 
 #[no_mangle]

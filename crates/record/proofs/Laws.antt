@@ -2,21 +2,23 @@
 -- written; a sound record's other bytes are zero, as those of a written one are.
 use mathlib.Core.Path.{_≡_, refl, sym, ap, _∙_}
 use mathlib.Core.List.{List, [], _∷_, _++_}
-use mathlib.Core.Bool.{true, _&&_}
+use mathlib.Core.Bool.{true, false, not, _&&_}
+use lib.Dec.{eqb}
 use Prim.Native.Nat.{ℕ, _+_, _*_, _/_, _%_, _≤_, _<_}
 use native.Mathlib.Omega.{arith}
 use lib.ListN.{length, getD, take, drop, length-drop, length-replicate, take-append-drop}
 use lib.Seq.{drop-drop, take-all}
 use borrow.Author.Tests.{eqb-true, le-leb}
-use Rattle.device.specs.Device.{mostID, mostData}
+use Rattle.device.specs.Device.{parallelPoll, mostID, mostData, hasFurther}
+use Rattle.device.specs.Poll.{unassigned}
 use Rattle.device.specs.PowerOn.{bytesFrom, powerOn}
 use Rattle.device.specs.declared.Device.{Device}
 use Rattle.device.proofs.Bytes.{bytes-wide, bytes-all, take-bytes}
 use Rattle.record.specs.Record.{headOf, deviceOf, recordOf, spare, zeros}
-use Rattle.record.specs.Sound.{soundDevice, soundRecord, allowed}
+use Rattle.record.specs.Sound.{only, pollRight, soundDevice, soundRecord, allowed}
 use Rattle.record.specs.Fits.{Bytes, Fits, Good}
 use Rattle.record.specs.Laws.{RecordWide, ReadWritten, WriteRead, WriteSound, ReadSound, GoodBytes, PowerOnSound}
-use Rattle.record.specs.Laws.{AnyRemote}
+use Rattle.record.specs.Laws.{AnyRemote, AnyPoll, NoPoll}
 use Rattle.record.proofs.Both.{left, right}
 use Rattle.record.proofs.Bytes.{small-bytes, zeros-small, bytes-small, bytes-append}
 
@@ -45,6 +47,7 @@ record-again d f =
       listener = d .listener;
       talker = d .talker;
       service = d .service;
+      further = d .further;
       noted = d .noted;
       status = d .status;
       accessory = d .accessory;
@@ -56,21 +59,16 @@ record-again d f =
       remote = d .remote;
       enabled = d .enabled;
       choice = d .choice;
+      assigned = d .assigned;
+      pollstatus = d .pollstatus;
       id = sym (bytes-all mostID (d .id) (f .idsize)) i;
       load = sym (bytes-all mostData (d .load) (f .loadsize)) i;
     }
 
--- five zeros
-zeros-five : (a b c d e : ℕ) → zeros (a ∷ b ∷ c ∷ d ∷ e ∷ []) ≡ true →
-    (a ≡ 0) × (b ≡ 0) × (c ≡ 0) × (d ≡ 0) × (e ≡ 0)
+-- two zeros
+zeros-two : (a b : ℕ) → zeros (a ∷ b ∷ []) ≡ true → (a ≡ 0) × (b ≡ 0)
 unfolding zeros
-zeros-five a b c d e h = (
-  eqb-true a 0 (search (left, right)),
-  eqb-true b 0 (search (left, right)),
-  eqb-true c 0 (search (left, right)),
-  eqb-true d 0 (search (left, right)),
-  eqb-true e 0 (search (left, right) depth 8),
-)
+zeros-two a b h = (eqb-true a 0 (search left), eqb-true b 0 (search (left, right)))
 
 module _ (b : List ℕ) (h : soundRecord b ≡ true) where
   spare-zero : zeros (spare b) ≡ true
@@ -93,10 +91,10 @@ three b len =
 head-back : (b : List ℕ) → length b ≡ 64 → Bytes b → soundRecord b ≡ true → headOf (deviceOf b) ≡ take 24 (drop 0 b)
 unfolding deviceOf bytesFrom
 head-back b len small h =
-    let z = zeros-five (getD b 7 0) (getD b 20 0) (getD b 21 0) (getD b 22 0) (getD b 23 0) (spare-zero b h) in
+    let z = zeros-two (getD b 20 0) (getD b 21 0) (spare-zero b h) in
     let lo = low-of (getD b 14 0) (getD b 15 0) (small 14) in
     let hi = high-of (getD b 14 0) (getD b 15 0) (small 14) in
-    let e : headOf (deviceOf b) ≡ bytesFrom 0 24 b = simp (lo, hi, z .0, z .1, z .2, z .3, z .4) in
+    let e : headOf (deviceOf b) ≡ bytesFrom 0 24 b = simp (lo, hi, z .0, z .1) in
     e ∙ sym (take-bytes 24 0 b (omega arith))
 
 -- a stretch of the record, read and written
@@ -128,6 +126,7 @@ read-fits b h =
       listener = h 4;
       talker = h 5;
       service = h 6;
+      further = h 7;
       noted = h 8;
       status = h 9;
       accessory = h 10;
@@ -139,6 +138,8 @@ read-fits b h =
       remote = h 17;
       enabled = h 18;
       choice = h 19;
+      assigned = h 22;
+      pollstatus = h 23;
       id = bytes-small b 24 mostID h;
       load = bytes-small b 32 mostData h;
       idsize = bytes-wide 24 mostID b;
@@ -156,6 +157,32 @@ blank-good = record { fits = read-fits [] (λ i. omega arith); sound = refl }
 pub any-remote : AnyRemote
 unfolding soundDevice
 any-remote d s f h k = rw (le-leb _ _ h, le-leb _ _ k)
+
+pub any-poll : AnyPoll
+unfolding soundDevice
+any-poll d x s f h k = rw (f, h, le-leb _ _ k)
+
+-- the clause on poll, of a sound device, and what it says of one without the ability
+sound-poll : (d : Device) → soundDevice d ≡ true → pollRight d ≡ true
+unfolding soundDevice
+sound-poll d h = search (left, right) depth 24
+
+poll-zero : (d : Device) → pollRight d ≡ true → hasFurther d parallelPoll ≡ false →
+    (d .assigned ≡ unassigned) × (d .pollstatus ≡ 0)
+poll-zero d h n =
+    let o : only (not (hasFurther d parallelPoll)) (eqb (d .assigned) unassigned && eqb (d .pollstatus) 0) ≡ true =
+    search (left, right) in
+    let z : (eqb (d .assigned) unassigned && eqb (d .pollstatus) 0) ≡ true = rw n at o in
+    let a = eqb (d .assigned) unassigned in
+    let s = eqb (d .pollstatus) 0 in
+    (eqb-true (d .assigned) unassigned (left a s z), eqb-true (d .pollstatus) 0 (right a s z))
+
+pub no-poll : NoPoll
+no-poll =
+    record {
+      zeros-only = λ d h n. poll-zero d (sound-poll d h) n;
+      zeros-right = λ d f a s. rw (f, a, s);
+    }
 
 pub good-bytes : GoodBytes
 unfolding recordOf
@@ -179,6 +206,7 @@ power-good item h a =
             listener = omega arith;
             talker = omega arith;
             service = omega arith;
+            further = h 12;
             noted = omega arith;
             status = omega arith;
             accessory = h 2;
@@ -190,6 +218,8 @@ power-good item h a =
             remote = omega arith;
             enabled = omega arith;
             choice = omega arith;
+            assigned = omega arith;
+            pollstatus = omega arith;
             id = bytes-small item 4 mostID h;
             load = zeros-small mostData;
             idsize = bytes-wide 4 mostID item;

@@ -22,6 +22,7 @@ pub record Fits (d : Device) : Type 0 where
   pub listener : d .listener < 256
   pub talker : d .talker < 256
   pub service : d .service < 256
+  pub further : d .further < 256
   pub noted : d .noted < 256
   pub status : d .status < 256
   pub accessory : d .accessory < 256
@@ -33,6 +34,8 @@ pub record Fits (d : Device) : Type 0 where
   pub remote : d .remote < 256
   pub enabled : d .enabled < 256
   pub choice : d .choice < 256
+  pub assigned : d .assigned < 256
+  pub pollstatus : d .pollstatus < 256
   pub id : Bytes (d .id)
   pub load : Bytes (d .load)
   pub idsize : length (d .id) ≡ mostID

@@ -27,6 +27,7 @@ deviceOf b =
       listener = getD b 4 0;
       talker = getD b 5 0;
       service = getD b 6 0;
+      further = getD b 7 0;
       noted = getD b 8 0;
       status = getD b 9 0;
       accessory = getD b 10 0;
@@ -38,6 +39,8 @@ deviceOf b =
       remote = getD b 17 0;
       enabled = getD b 18 0;
       choice = getD b 19 0;
+      assigned = getD b 22 0;
+      pollstatus = getD b 23 0;
       id = bytesFrom 24 mostID b;
       load = bytesFrom 32 mostData b;
     }
@@ -45,18 +48,18 @@ deviceOf b =
 -- bytes 0 to 23 of a device's record
 abbrev pub headOf : Device → List ℕ
 headOf d =
-    d .abilities ∷ d .fixed ∷ d .address ∷ d .configured ∷ d .listener ∷ d .talker ∷ d .service ∷ 0 ∷
+    d .abilities ∷ d .fixed ∷ d .address ∷ d .configured ∷ d .listener ∷ d .talker ∷ d .service ∷ d .further ∷
     d .noted ∷ d .status ∷ d .accessory ∷ d .idlength ∷ d .loadlength ∷ d .sent ∷ d .last % 256 ∷ d .last / 256 ∷
-    d .replied ∷ d .remote ∷ d .enabled ∷ d .choice ∷ 0 ∷ 0 ∷ 0 ∷ 0 ∷
+    d .replied ∷ d .remote ∷ d .enabled ∷ d .choice ∷ 0 ∷ 0 ∷ d .assigned ∷ d .pollstatus ∷
     []
 
 -- all its bytes: ID and data stand behind
 unfoldable pub recordOf : Device → List ℕ
 recordOf d = headOf d ++ (bytesFrom 0 mostID (d .id) ++ bytesFrom 0 mostData (d .load))
 
--- bytes 7 and 20-23, which hold no value
+-- bytes 20 and 21, which hold no value
 abbrev pub spare : List ℕ → List ℕ
-spare b = getD b 7 0 ∷ getD b 20 0 ∷ getD b 21 0 ∷ getD b 22 0 ∷ getD b 23 0 ∷ []
+spare b = getD b 20 0 ∷ getD b 21 0 ∷ []
 
 -- each byte is zero
 unfoldable pub zeros : List ℕ → Bool

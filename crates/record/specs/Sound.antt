@@ -1,5 +1,5 @@
--- When a record is sound: the clauses of 01's "Sound means" on a record, in its order, with the values of 02, d and h,
--- and its zero bytes; a set-up item is judged by the same clauses. That frames are below 2,048 area says of links.
+-- When a record is sound: the clauses of 01's "Sound means" on a record, in its order, with the values of 02, d, f and
+-- h, and its zero bytes; a set-up item is judged by the same clauses. That frames are below 2,048 area says of links.
 use Prim.Native.Nat.{ℕ}
 use mathlib.Core.List.{List}
 use mathlib.Core.Bool.{Bool, not, _&&_, _||_}
@@ -7,7 +7,9 @@ use lib.Dec.{eqb, ltb, leb}
 use lib.ListN.{drop}
 use Rattle.device.specs.Device.{listen, sendData, status, deviceID, accessoryID, autoAddress, unaddress, serviceRequest}
 use Rattle.device.specs.Device.{addressed, sendingData, sendingStatus, sendingDeviceID, sendingAccessoryID, noService}
-use Rattle.device.specs.Device.{polled, RWLS, isChoice, noAddress, mostID, mostData, has, talks, sending}
+use Rattle.device.specs.Device.{polled, parallelPoll, RWLS, isChoice, noAddress, mostID, mostData, has, hasFurther}
+use Rattle.device.specs.Device.{talks, sending}
+use Rattle.device.specs.Poll.{assignment, unassigned}
 use Rattle.device.specs.PowerOn.{powerOn}
 use Rattle.device.specs.declared.Device.{Device}
 use Rattle.record.specs.Record.{deviceOf, spare, zeros}
@@ -95,6 +97,18 @@ quietOutside d = only (not (sending d)) (eqb (d .noted) 0 && eqb (d .last) 0)
 abbrev pub lastBelow : Device → Bool
 lastBelow d = ltb (d .last) 0x400
 
+-- sense and bit: none, or 16 plus PPE's low four bits (01, Kept for later parts; 02, f)
+abbrev pub isAssignment : ℕ → Bool
+isAssignment x = eqb x unassigned || (leb (assignment 0) x && leb x (assignment 15))
+
+-- of the further abilities only poll; poll status 0/1; it, sense and bit zero without the ability
+abbrev pub pollRight : Device → Bool
+pollRight d =
+    leb (d .further) parallelPoll &&
+    (isAssignment (d .assigned) &&
+    (leb (d .pollstatus) 1 &&
+    only (not (hasFurther d parallelPoll)) (eqb (d .assigned) unassigned && eqb (d .pollstatus) 0)))
+
 -- a device is sound: all of these
 unfoldable pub soundDevice : Device → Bool
 soundDevice d =
@@ -112,7 +126,8 @@ soundDevice d =
     (sentWithin d &&
     (repliedRight d &&
     (quietOutside d &&
-    lastBelow d)))))))))))))
+    (lastBelow d &&
+    pollRight d))))))))))))))
 
 -- a record is sound: its spare bytes are zero, and its device is sound
 unfoldable pub soundRecord : List ℕ → Bool

@@ -25,6 +25,8 @@ pub const TALKER: usize = 5;
 
 pub const SERVICE: usize = 6;
 
+pub const FURTHER: usize = 7;
+
 pub const NOTED: usize = 8;
 
 pub const STATUS: usize = 9;
@@ -46,6 +48,10 @@ pub const REMOTE: usize = 17;
 pub const ENABLED: usize = 18;
 
 pub const CHOICE: usize = 19;
+
+pub const ASSIGNED: usize = 22;
+
+pub const POLL_STATUS: usize = 23;
 
 pub const ID: usize = 24;
 

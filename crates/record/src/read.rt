@@ -1,11 +1,12 @@
 // What is read from a record where it lies, without a copy.
 use crate::ABILITIES;
+use crate::FURTHER;
 use crate::ID;
 use crate::LOAD;
 use device::Device;
 ghost use mathlib.Core.Path.{_≡_};
 ghost use lib.ListN.{length, getD};
-ghost use Rattle.device.specs.Device.{has, talks};
+ghost use Rattle.device.specs.Device.{has, hasFurther, talks};
 ghost use Rattle.record.specs.Record.{recordSize, deviceOf};
 
 // Whether its device has an ability.
@@ -14,6 +15,14 @@ pub fn has(rec: &[u8], ability: u8) -> bool
     ensures { λ r. ⌜ r ≡ has (deviceOf (now (rec .entry))) ability ⌝ }
 {
     rec[ABILITIES] & ability != 0
+}
+
+// Whether it has a further ability.
+pub fn has_further(rec: &[u8], ability: u8) -> bool
+    requires { ⌜ length (now rec) ≡ recordSize ⌝ }
+    ensures { λ r. ⌜ r ≡ hasFurther (deviceOf (now (rec .entry))) ability ⌝ }
+{
+    rec[FURTHER] & ability != 0
 }
 
 // Some of the four abilities whose replies a talker sends.

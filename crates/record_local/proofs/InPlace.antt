@@ -7,7 +7,7 @@ use lib.ListN.{length, take, drop, set}
 use borrow.Author.Tests.{ne-eqb}
 use Rattle.device.specs.PowerOn.{bytesFrom}
 use Rattle.device.specs.Change.{loadlength, sent, choice, status, service, remote, loading, statusing, serving}
-use Rattle.device.specs.Change.{remoting}
+use Rattle.device.specs.Change.{remoting, pollstatus, pollstatusing}
 use Rattle.device.specs.declared.Device.{Device}
 use Rattle.record.specs.Record.{deviceOf, recordOf}
 use Rattle.record.specs.Written.{IsRecord}
@@ -33,6 +33,10 @@ module _ (d : Device) where
   unfolding recordOf
   remote-put x = refl
 
+  poll-status-put : (x : ℕ) → set (recordOf d) pollstatus x ≡ recordOf (pollstatusing d x)
+  unfolding recordOf
+  poll-status-put x = refl
+
 -- a record b of bytes
 module _ (b : List ℕ) (i : IsRecord b) where
   pub data-written : (bs : List ℕ) (e : ℕ) →
@@ -48,6 +52,9 @@ module _ (b : List ℕ) (i : IsRecord b) where
 
   pub remote-written : (x : ℕ) → set b remote x ≡ recordOf (remoting (deviceOf b) x)
   remote-written x = rw (i .whole) at (remote-put (deviceOf b) x)
+
+  pub poll-status-written : (x : ℕ) → set b pollstatus x ≡ recordOf (pollstatusing (deviceOf b) x)
+  poll-status-written x = rw (i .whole) at (poll-status-put (deviceOf b) x)
 
 -- a refused call leaves the record b as it was, and an accepted one leaves that of its device
 module _ (b : List ℕ) where

@@ -1,12 +1,12 @@
--- The local calls of a device (01, The calls; 02, d and h), refused with 2, 7, 8, 9 in that order.
+-- The local calls of a device (01, The calls; 02, d, f and h), refused with 2, 7, 8, 9 in that order.
 use Prim.Native.Nat.{ℕ}
 use mathlib.Core.List.{List}
 use lib.Dec.{eqb, ltb}
 use lib.ListN.{length}
 use Rattle.device.specs.Choose.{choose}
 use Rattle.device.specs.Device.{sendData, status, serviceRequest, sendingData, noService, asking, isChoice, mostData}
-use Rattle.device.specs.Device.{has}
-use Rattle.device.specs.Change.{serving, loading, statusing}
+use Rattle.device.specs.Device.{parallelPoll, has, hasFurther}
+use Rattle.device.specs.Change.{serving, loading, statusing, pollstatusing}
 use Rattle.device.specs.Remote.{key}
 use Rattle.device.specs.declared.Device.{Device}
 
@@ -60,3 +60,11 @@ wishes d w = choose (has d serviceRequest) (accepted (wishing d w)) (refused noA
 -- the panel key is pressed: never refused by the device (02, d)
 abbrev pub presses : Device → Called
 presses d = accepted (key d)
+
+-- poll status: 0 is no, any other number yes (02, f)
+unfoldable pub yesOrNo : ℕ → ℕ
+yesOrNo s = choose (eqb s 0) 0 1
+
+unfoldable pub setsPollStatus : Device → ℕ → Called
+setsPollStatus d s =
+    choose (hasFurther d parallelPoll) (accepted (pollstatusing d (yesOrNo s))) (refused noAbility d)

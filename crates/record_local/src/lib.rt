@@ -1,9 +1,10 @@
-// The local calls of a device (01, The calls; 02, d and h), made in its record, refused with 7, 8, 9 in that order; 2,
+// The local calls of a device (01, The calls; 02, d, f and h), made in its record, refused with 7, 8, 9 in that order; 2,
 // for a load's choice, comes before the device is looked for. Only the bytes that a call speaks of are written.
 use device::Device;
 use record::CHOICE;
 use record::LOAD;
 use record::LOAD_LENGTH;
+use record::POLL_STATUS;
 use record::REMOTE;
 use record::SENT;
 use record::SERVICE;
@@ -11,6 +12,7 @@ use record::SIZE;
 use record::STATUS;
 use record::TALKER;
 use record::read::has;
+use record::read::has_further;
 use record_write::clear;
 ghost use mathlib.Core.Path.{_≡_};
 ghost use Prim.Native.Nat.{_≤_};
@@ -20,7 +22,8 @@ ghost use Rattle.device.specs.PowerOn.{bytesFrom};
 ghost use Rattle.device.specs.Change.{loading};
 ghost use Rattle.record.specs.Record.{deviceOf, recordOf};
 ghost use Rattle.record.specs.Written.{IsRecord};
-ghost use Rattle.record_local.specs.Local.{loads, setsStatus, wishing, wishes, presses};
+ghost use Rattle.record_local.specs.Local.{loads, setsStatus, wishing, wishes, presses, yesOrNo};
+ghost use Rattle.record_local.specs.Local.{setsPollStatus};
 ghost use Rattle.record_local.specs.InPlace.{InPlace};
 
 const NO_ABILITY: u8 = 7;
@@ -116,4 +119,27 @@ pub fn key(rec: &mut [u8]) -> u8
         return 0;
     }
     0
+}
+
+// Any number but 0 is yes.
+fn yes_or_no(status: u64) -> u8
+    ensures { λ r. ⌜ r ≡ yesOrNo status ⌝ }
+{
+    if status == 0 {
+        return 0;
+    }
+    1
+}
+
+// Set the poll status.
+pub fn poll_status(rec: &mut [u8], status: u64) -> u8
+    requires { ⌜ IsRecord (now rec) ⌝ }
+    ensures { λ r. ⌜ InPlace (now (rec .entry)) (setsPollStatus (deviceOf (now (rec .entry))) status) r
+        (now (rec .exit)) ⌝ }
+{
+    if has_further(rec, Device::PARALLEL_POLL) {
+        rec[POLL_STATUS] = yes_or_no(status);
+        return 0;
+    }
+    NO_ABILITY
 }

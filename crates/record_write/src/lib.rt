@@ -66,7 +66,7 @@ pub fn write(rec: &mut [u8], d: Device)
         d.listener,
         d.talker,
         d.service,
-        0,
+        d.further,
         d.noted,
         d.status,
         d.accessory,
@@ -81,8 +81,8 @@ pub fn write(rec: &mut [u8], d: Device)
         d.choice,
         0,
         0,
-        0,
-        0,
+        d.assigned,
+        d.pollstatus,
     ];
     let id = d.id;
     let load = d.load;

@@ -3,14 +3,17 @@
 use device::Device;
 use record::ABILITIES;
 use record::ADDRESS;
+use record::ASSIGNED;
 use record::CHOICE;
 use record::CONFIGURED;
 use record::ENABLED;
 use record::FIXED;
+use record::FURTHER;
 use record::ID_LENGTH;
 use record::LISTENER;
 use record::LOAD_LENGTH;
 use record::NOTED;
+use record::POLL_STATUS;
 use record::REMOTE;
 use record::SERVICE;
 use record::TALKER;
@@ -24,7 +27,7 @@ ghost use lib.ListN.{length};
 ghost use Rattle.device.specs.declared.Device.{Device};
 ghost use Rattle.record.specs.Record.{recordSize, deviceOf};
 ghost use Rattle.record.specs.Sound.{inRange, serviceWithStatus, unaddressWithBoth, listenerAble, serviceAble};
-ghost use Rattle.record.specs.Sound.{soundRecord, allowed};
+ghost use Rattle.record.specs.Sound.{pollRight, soundRecord, allowed};
 ghost use Rattle.sound.specs.Groups.{abilitiesAllowed, addressRight, ableAll};
 
 fn in_range(rec: &[u8]) -> bool
@@ -128,6 +131,21 @@ fn able(rec: &[u8]) -> bool
     false
 }
 
+// What the poll's three bytes ask for; without the ability, as most devices are, the other two are zero.
+fn poll_right(rec: &[u8]) -> bool
+    requires { ⌜ length (now rec) ≡ recordSize ⌝ }
+    ensures { λ r. ⌜ r ≡ pollRight (deviceOf (now (rec .entry))) ⌝ }
+{
+    let assigned = rec[ASSIGNED];
+    match rec[FURTHER] {
+        0 => (assigned == Device::UNASSIGNED) & (rec[POLL_STATUS] == 0),
+        1 => ((assigned == Device::UNASSIGNED)
+            | ((Device::ASSIGNMENT <= assigned) & (assigned <= Device::ASSIGNMENT + 15)))
+            & (rec[POLL_STATUS] <= 1),
+        _ => false,
+    }
+}
+
 // A record of 64 bytes is sound: its spare bytes are zero, and its device is sound.
 pub fn record_sound(rec: &[u8]) -> bool
     requires { ⌜ length (now rec) ≡ recordSize ⌝ }
@@ -136,7 +154,10 @@ pub fn record_sound(rec: &[u8]) -> bool
     if spare_zero(rec) & in_range(rec) {
         if zero_past(rec) {
             if able(rec) {
-                return talker_right(rec);
+                if talker_right(rec) {
+                    return poll_right(rec);
+                }
+                return false;
             }
             return false;
         }
@@ -147,10 +168,11 @@ pub fn record_sound(rec: &[u8]) -> bool
 
 // A set-up item is allowed: its device at power-on is sound. What else that asks is zero there.
 pub fn item_allowed(item: &[u8]) -> bool
-    requires { ⌜ length (now item) ≡ 12 ⌝ }
+    requires { ⌜ length (now item) ≡ 13 ⌝ }
     ensures { λ r. ⌜ r ≡ allowed (now (item .entry)) ⌝ }
 {
     (item[1] <= Device::NO_ADDRESS)
         & ((item[3] <= Device::MOST_ID as u8)
-            & (zero_past_length(&item[4..12], item[3]) & abilities_allowed(item[0])))
+            & (zero_past_length(&item[4..12], item[3])
+                & (abilities_allowed(item[0]) & (item[12] <= Device::PARALLEL_POLL))))
 }

@@ -3,7 +3,7 @@ use Prim.Native.Nat.{ℕ}
 use mathlib.Core.Path.{_≡_}
 use mathlib.Core.List.{List, [], _∷_}
 use Rattle.device.specs.Change.{Edit, _becomes_, changed, address, configured, listener, talker, service, noted, sent}
-use Rattle.device.specs.Change.{last, replied, remote, enabled}
+use Rattle.device.specs.Change.{last, replied, remote, enabled, assigned}
 use Rattle.device.specs.Sent.{Sent}
 use Rattle.device.specs.declared.Device.{Device}
 use Rattle.record.specs.Record.{deviceOf, recordOf}
@@ -25,6 +25,7 @@ values s =
     replied becomes s .replied ∷
     remote becomes s .remote ∷
     enabled becomes s .enabled ∷
+    assigned becomes s .assigned ∷
     []
 
 -- d with the state s

@@ -2,6 +2,7 @@
 use crate::State;
 ghost use mathlib.Core.Path.{_≡_};
 ghost use Rattle.device.specs.Change.{listening, talking, placed, serving, noting, counting, remoting, enabling};
+ghost use Rattle.device.specs.Change.{assigning};
 ghost use Rattle.device.specs.declared.Device.{Device};
 ghost use Rattle.state.specs.State.{with};
 
@@ -73,6 +74,13 @@ impl State {
         ensures { λ r. ⌜ ((d : Device) → with d r ≡ enabling (with d self) enabled) ⌝ }
     {
         self.enabled = enabled;
+        self
+    }
+
+    pub fn assigning(mut self, assigned: u8) -> Self
+        ensures { λ r. ⌜ ((d : Device) → with d r ≡ assigning (with d self) assigned) ⌝ }
+    {
+        self.assigned = assigned;
         self
     }
 }

@@ -3,6 +3,7 @@ mod change;
 
 use device::Handed;
 use record::ADDRESS;
+use record::ASSIGNED;
 use record::CONFIGURED;
 use record::ENABLED;
 use record::LAST;
@@ -36,6 +37,7 @@ pub struct State {
     pub service: u8,
     pub enabled: u8,
     pub remote: u8,
+    pub assigned: u8,
 }
 
 // The state after a frame, the frame that is sent and what is handed over.
@@ -75,6 +77,7 @@ impl State {
             replied: rec[REPLIED],
             remote: rec[REMOTE],
             enabled: rec[ENABLED],
+            assigned: rec[ASSIGNED],
         }
     }
 
@@ -95,5 +98,6 @@ impl State {
         rec[REPLIED] = self.replied;
         rec[REMOTE] = self.remote;
         rec[ENABLED] = self.enabled;
+        rec[ASSIGNED] = self.assigned;
     }
 }

@@ -54,7 +54,7 @@ impl Taker {
             return put_back(ready(state, rec, frame), rec);
         }
         if frame < frame::FRAMES as u16 {
-            return put_back(identify(state, frame), rec);
+            return put_back(identify(state, rec, frame), rec);
         }
         put_back(sends(state, frame), rec)
     }

@@ -21,7 +21,7 @@ use Rattle.area.specs.Loop.{loopOf, areaOf, shapedWith, sound, judgeWith}
 use Rattle.calls.specs.Outcome.{callWith}
 use Rattle.calls.specs.Calls.{putIn, takeIn, hopIn, localIn, loadIn}
 use Rattle.calls.specs.Drain.{canHop, highest, drainFrom}
-use Rattle.calls.specs.SetUp.{itemsFit, setUpWith}
+use Rattle.calls.specs.SetUp.{isItems, itemWidth, itemsFit, setUpWith}
 use Rattle.saved.specs.Saved.{headOf, recorded, saved, stands, isOf, headed, formed, contents}
 use Rattle.saved.specs.Older.{savedBefore, upgrade, opened, soundSave}
 use Rattle.saved.specs.Calls.{saveWith, openWith}
@@ -33,8 +33,8 @@ empty : AllEmpty (areaLeft fresh mixed)
 unfolding messages kindAt lookup within firstIn firstOf hasC1 offsetIn c1In choose powerOn bytesFrom toRemote lad tad
     aau toListener marked requested polls sst nrd aad returned heard dataOrEnd takes loads deviceOf recordOf zeros
     soundDevice soundRecord allowed parts join all framesOf linkOf soundSlot soundLink loopOf areaOf shapedWith sound
-    judgeWith callWith putIn takeIn hopIn localIn loadIn itemsFit setUpWith canHop highest drainFrom headOf recorded
-    saved stands isOf headed formed contents upgrade opened soundSave saveWith openWith
+    judgeWith callWith putIn takeIn hopIn localIn loadIn isItems itemWidth itemsFit setUpWith canHop highest
+    drainFrom headOf recorded saved stands isOf headed formed contents upgrade opened soundSave saveWith openWith
 empty zero = refl
 empty (suc zero) = refl
 empty (suc (suc zero)) = refl
@@ -44,8 +44,8 @@ pub example : Example
 unfolding messages kindAt lookup within firstIn firstOf hasC1 offsetIn c1In choose powerOn bytesFrom toRemote lad tad
     aau toListener marked requested polls sst nrd aad returned heard dataOrEnd takes loads deviceOf recordOf zeros
     soundDevice soundRecord allowed parts join all framesOf linkOf soundSlot soundLink loopOf areaOf shapedWith sound
-    judgeWith callWith putIn takeIn hopIn localIn loadIn itemsFit setUpWith canHop highest drainFrom headOf recorded
-    saved stands isOf headed formed contents savedBefore upgrade opened soundSave saveWith openWith
+    judgeWith callWith putIn takeIn hopIn localIn loadIn isItems itemWidth itemsFit setUpWith canHop highest
+    drainFrom headOf recorded saved stands isOf headed formed contents savedBefore upgrade opened soundSave saveWith openWith
 example =
     record {
       set-up = refl;

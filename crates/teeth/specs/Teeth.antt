@@ -11,8 +11,8 @@ use Rattle.device.specs.PowerOn.{powerOn}
 use Rattle.device.specs.Take.{takes}
 use Rattle.area.specs.Loop.{Loop, countIn, loopOf, areaOf, device, link}
 use Rattle.calls.specs.Outcome.{After}
-use Rattle.demands.specs.Calls.{Byte, load, Action, put, hop, local, drain, save, Call, onArea, opens, decode, Answer}
-use Rattle.demands.specs.Calls.{plain, hopped, taken, drained, owing, saving, decoded, encoded, pil, refusalIn}
+use Rattle.demands.specs.Calls.{Byte, load, Action, put, hop, local, drain, save, Call, onArea, opens, onFrame, decode}
+use Rattle.demands.specs.Calls.{Answer, plain, hopped, taken, drained, owing, saving, decoded, encoded, polled, pil, refusalIn}
 use Rattle.demands.specs.Conditions.{Shape, Unsound, NoDevice, Empty, Full, BadSave}
 use Rattle.demands.specs.Histories.{hopsBy}
 use Rattle.demands.specs.Demands.{Refuses, CanHop, ruled, Obeys}
@@ -65,6 +65,7 @@ frameIn (owing r) = 0
 frameIn (saving k out) = 0
 frameIn (decoded r) = 0
 frameIn (encoded r) = 0
+frameIn (polled r) = 0
 
 abbrev pub kindIn : Answer → ℕ
 kindIn (plain k) = 0
@@ -75,11 +76,12 @@ kindIn (owing r) = 0
 kindIn (saving k out) = 0
 kindIn (decoded r) = r .kind
 kindIn (encoded r) = 0
+kindIn (polled r) = 0
 
 -- No model whose decoder has one kind for every frame meets demand 2.
 abbrev pub OneKindShutOut : Type 0
 OneKindShutOut = (k : ℕ) (model : Call → List ℕ → After Answer) →
-    ((f : ℕ) (a : List ℕ) → f < frames → kindIn (model (decode f) a .answer) ≡ k) → Obeys model → ⊥
+    ((f : ℕ) (a : List ℕ) → f < frames → kindIn (model (onFrame (decode f)) a .answer) ≡ k) → Obeys model → ⊥
 
 -- Nor one whose hops pass every frame untouched, by what they answer or by what they leave.
 pub record PasserShutOut : Type 0 where

@@ -32,12 +32,12 @@ pub fn zero_past_length(s: &[u8], length: u8) -> bool
     zeros_from(s, length as usize)
 }
 
-// Bytes 7 and 20 to 23.
+// Bytes 20 and 21.
 pub fn spare_zero(rec: &[u8]) -> bool
     requires { ⌜ length (now rec) ≡ recordSize ⌝ }
     ensures { λ r. ⌜ r ≡ zeros (spare (now (rec .entry))) ⌝ }
 {
-    (rec[7] == 0) & ((rec[20] == 0) & ((rec[21] == 0) & ((rec[22] == 0) & (rec[23] == 0))))
+    (rec[20] == 0) & (rec[21] == 0)
 }
 
 fn id_zero_past(rec: &[u8]) -> bool

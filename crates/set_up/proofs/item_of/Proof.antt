@@ -1,16 +1,15 @@
--- Twelve bytes copied over twelve zeros are those bytes.
-use mathlib.Core.Path.{sym, _∙_}
-use native.Mathlib.Omega.{arith}
-use Rattle.device.proofs.Bytes.{padded-is, bytes-all}
-use Rattle.area.specs.Sizes.{itemSize}
+-- At most 13 bytes copied over 13 zeros are those bytes, and zeros behind them.
+use mathlib.Core.Path.{_∙_}
+use Rattle.device.proofs.Bytes.{padded-is}
+use Rattle.area.specs.Sizes.{longItemSize}
 use borrow.Author.Needs.{needs}
 use Rattle.set_up.proofs.item_of.Statement.{statement}
 use Rattle.set_up.proofs.item_of.Tie as tie
 
 returns : tie.Need-returns
-returns c = let b = c .before .before .before .before .args .bytes .now in
-    c .before .copy .ensures .1 ∙ padded-is b itemSize (omega (arith, c .before .before .before .before .pre))
-    ∙ sym (bytes-all itemSize b (c .before .before .before .before .pre))
+returns c =
+    let s = c .before .before .before .before in
+    c .before .copy .ensures .1 ∙ padded-is (s .args .bytes .now) longItemSize (s .pre)
 
 pub item-of-spec : {M : Type 1} → statement M
 item-of-spec =

@@ -1,49 +1,72 @@
--- Item by item: the test of all is that of the items that are left.
-use mathlib.Core.Path.{refl, sym}
+-- Item by item: the test of all is that of the items that are left, each as one of 13 bytes.
+use Prim.Native.Nat.{ℕ, _≤_}
+use mathlib.Core.Path.{_≡_, refl, sym, ap, _∙_}
 use native.Mathlib.Omega.{arith}
+use lib.ListN.{length, take}
 use lib.Seq.{length-take-le}
 use Rattle.record.specs.Sound.{allowed}
-use Rattle.area.specs.Sizes.{itemSize}
-use Rattle.area.proofs.Rest.{Rest, fails, next, ends}
+use Rattle.area.proofs.Rest.{Rest, there, fails, next, ends}
+use Rattle.calls.proofs.Powered.{width-few, width-all, padded-allowed}
 use borrow.Author.Needs.{needs}
 use Rattle.set_up.proofs.items_allowed.Statement.{statement}
 use Rattle.set_up.proofs.items_allowed.Tie as tie
 
 abbrev Inv-loop : tie.InvT-loop
-Inv-loop items n rest₀ left₀ rest left = Rest allowed itemSize n items left rest
+Inv-loop items n width rest₀ left₀ rest left = Rest allowed width n items left rest
 
 abbrev μ-loop : tie.MeasureT-loop
-μ-loop items n rest₀ left₀ rest left = left
+μ-loop items n width rest₀ left₀ rest left = left
 
 loop-holds : tie.Need-loop-holds Inv-loop μ-loop
-loop-holds c = record { long = omega arith; same = refl }
+loop-holds c =
+    let s = c .before .before in
+    let a = width-all (length (s .args .items .now)) (s .args .n) (s .pre .1) in
+    record { long = rw (c .item-width .ensures) (omega (arith, a)); same = refl }
 
-slice-aggregate-item-allowed : tie.Need-slice-aggregate-item-allowed Inv-loop μ-loop
-slice-aggregate-item-allowed c = let l = c .before .before .loop in sym
-    (length-take-le itemSize (l .rest .now) (omega (arith, l .inv .long)))
+-- the next item is there
+long : (c : tie.In-loop Inv-loop μ-loop) →
+    length (take (c .before .before .item-width .result) (c .before .loop .rest .now)) ≡ c .before .before .item-width .result
+long c =
+    let l = c .before .loop in
+    length-take-le _ (l .rest .now) (there allowed _ _ _ (l .left) (l .rest .now) (l .inv) (omega arith))
 
-item-allowed-requires : tie.Need-item-allowed-requires Inv-loop μ-loop
-item-allowed-requires c κs = let l = c .before .before .loop in length-take-le itemSize (l .rest .now)
-    (omega (arith, l .inv .long))
+item-of-requires : tie.Need-item-of-requires Inv-loop μ-loop
+item-of-requires c κs = rw (long (c .before), c .before .before .before .item-width .ensures) (width-few _ _)
+
+-- and is judged as one of 13 bytes
+judged : (c : tie.After-item-allowed Inv-loop μ-loop) →
+    let o = c .before .before in
+    let i = o .before .before in
+    c .item-allowed .result ≡ allowed (take (i .before .before .item-width .result) (i .before .loop .rest .now))
+judged c = c .item-allowed .ensures ∙ ap allowed (c .before .before .item-of .ensures) ∙ padded-allowed _
 
 returns : tie.Need-returns Inv-loop μ-loop
-returns c = let l = c .before .before .before .before .loop in
-    fails allowed itemSize _ _ (l .left) (l .rest .now) _ (l .inv) (omega arith)
-    (c .before .item-allowed .ensures) (c .if1 .taken)
+returns c =
+    let a = c .before in
+    let b = a .before .before .before .before .before in
+    let l = b .loop in
+    rw (← b .before .item-width .ensures)
+    (fails allowed _ _ _ (l .left) (l .rest .now) _ (l .inv) (omega arith) (judged a) (c .if1 .taken))
 
-sub-rest : tie.Need-sub-rest Inv-loop μ-loop
-sub-rest c = let l = c .before .before .before .before .loop in omega (arith, l .inv .long)
-
-part-rest-start : tie.Need-part-rest-start Inv-loop μ-loop
-part-rest-start c = let l = c .before .before .before .before .loop in omega (arith, l .inv .long)
+-- so that the rest is behind it
+behind : (c : tie.Else1 Inv-loop μ-loop) →
+    let b = c .before .before .before .before .before .before in
+    b .before .item-width .result ≤ length (b .loop .rest .now)
+behind c =
+    let l = c .before .before .before .before .before .before .loop in
+    there allowed _ _ _ (l .left) (l .rest .now) (l .inv) (omega arith)
 
 loop-again : tie.Need-loop-again Inv-loop μ-loop
-loop-again c = let l = c .before .before .before .before .before .loop in
-    next allowed itemSize _ _ (l .left) (l .rest .now) _ (l .inv) (omega arith)
-    (c .before .before .item-allowed .ensures) (c .before .if1 .left)
+loop-again c =
+    let a = c .before .before in
+    let l = a .before .before .before .before .before .loop in
+    next allowed _ _ _ (l .left) (l .rest .now) _ (l .inv) (omega arith) (judged a) (c .before .if1 .left)
 
 returns-2 : tie.Need-returns-2 Inv-loop μ-loop
-returns-2 c = let l = c .before .loop in ends allowed itemSize _ _ (l .left) (l .rest .now) (l .inv) (omega arith)
+returns-2 c =
+    let b = c .before in
+    let l = b .loop in
+    rw (← b .before .item-width .ensures) (ends allowed _ _ _ (l .left) (l .rest .now) (l .inv) (omega arith))
 
 pub items-allowed-spec : {M : Type 1} → statement M
 items-allowed-spec =
@@ -51,12 +74,15 @@ items-allowed-spec =
     (tie.spec
     Inv-loop
     μ-loop
+    (λ c κs. search needs)
     loop-holds
-    slice-aggregate-item-allowed
-    item-allowed-requires
+    (λ c. sym (long (c .before)))
+    item-of-requires
+    (λ c. search needs)
+    (λ c κs. search needs)
     returns
-    sub-rest
-    part-rest-start
+    behind
+    (λ c. omega (arith, behind c))
     (λ c. search needs)
     (λ c. search needs)
     (λ c. search needs)

@@ -25,12 +25,13 @@ few c = few-counted mostDevices (c .before .before .before .before .args .n) (co
 area-size-requires : tie.Need-area-size-requires
 area-size-requires c κs = omega (arith, few c)
 
-mul-result : tie.Need-mul-result
-mul-result c = omega (arith, few (c .before))
+is-items-requires : tie.Need-is-items-requires
+is-items-requires c κs = few (c .before)
 
 returns-2 : tie.Need-returns-2
 unfolding itemsFit
-returns-2 c = rw (counted (c .before), c .area-size .ensures)
+returns-2 c =
+    let a = c .before in rw (counted (a .before), a .area-size .ensures, c .is-items .ensures)
 
 pub items-fit-spec : {M : Type 1} → statement M
 items-fit-spec =
@@ -39,5 +40,5 @@ items-fit-spec =
     (λ c κs. search needs)
     returns
     area-size-requires
-    mul-result
+    is-items-requires
     returns-2)

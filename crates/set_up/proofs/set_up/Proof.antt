@@ -21,11 +21,9 @@ items-allowed-requires c κs =
     let f = c .before in
     let n = f .before .before in
     let s = n .before .before .before in
-    omega (
-      arith,
-      items-fit mostDevices (n .devices-for .result) (s .args .area .now) (s .args .items .now)
-          (sym (f .items-fit .ensures) ∙ not-false _ (c .if1 .left)),
-    )
+    let p = items-fit mostDevices (n .devices-for .result) (s .args .area .now) (s .args .items .now)
+    (sym (f .items-fit .ensures) ∙ not-false _ (c .if1 .left)) in
+    (p .few, p .items)
 
 returns-2 : tie.Need-returns-2
 returns-2 c =

@@ -20,4 +20,5 @@ read-spec =
     (λ c. search needs)
     (λ c. search needs)
     (λ c. search needs)
-    (λ c. rw (c .before .before .before .before .before .before .before .before .before .before .word-at .ensures)))
+    (λ c. search needs)
+    (λ c. rw (c .before .before .before .before .before .before .before .before .before .before .before .word-at .ensures)))

@@ -23,5 +23,6 @@ write-spec =
     (λ c. simp length-set (search needs))
     (λ c. simp length-set (search needs))
     (λ c. simp length-set (search needs))
+    (λ c. simp length-set (search needs))
     (λ c. simp length-set)
     (λ c. search needs))

@@ -38,9 +38,9 @@ returns-4 : tie.Need-returns-4
 returns-4 c =
     let p = c .before .before in
     let k = p .before .before in
-    let s = k .before .before .before .before .before .before .before in
+    let s = k .before .before .before .before .before .before .before .before in
     let b = s .args .rec .now in
-    put-in b _ (k .identify .result) _ _ (s .pre .0) (k .identify .ensures (deviceOf b))
+    put-in b _ (k .identify .result) _ _ (s .pre .0) (k .identify .ensures)
     (p .put-back4 .ensures .0) (p .put-back4 .ensures .1)
 
 returns-5 : tie.Need-returns-5

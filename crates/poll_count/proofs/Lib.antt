@@ -1,0 +1,2 @@
+-- The counts of a byte's bits.
+mod Count

@@ -1,0 +1,2 @@
+-- The count over an IDY that came back.
+pub mod Count
