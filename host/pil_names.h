@@ -56,7 +56,7 @@ static const char *const pil_refusal_texts[11] = {
     "shape: lengths do not fit, or no set-up yet",
     "unsound: the area, an item or a choice breaks a rule",
     "no device: its number is too high",
-    "bad frame: no such frame, kind, offset or C1",
+    "bad frame: no such frame, kind, offset or C1, or no IDY",
     "empty: no frame to take",
     "full: no room for a frame",
     "no ability: the device cannot do that",

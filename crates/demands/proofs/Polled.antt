@@ -13,7 +13,8 @@ use Rattle.device.specs.Poll.{answer}
 use Rattle.device.specs.PollSentences.{polledBy}
 use Rattle.device.specs.declared.Device.{Device}
 use Rattle.device.proofs.Sentences.{idy-goes-on}
-use Rattle.device.proofs.PollSentences.{assigned-by, only-listeners, leaves-poll, idy-bits, shared-or, shared-and}
+use Rattle.device.proofs.Assigned.{assigned-by, only-listeners}
+use Rattle.device.proofs.PollSentences.{leaves-poll, idy-bits, shared-or, shared-and}
 use Rattle.device.proofs.PollTable.{note-5, rack-reads}
 use Rattle.record.proofs.Laws.{any-poll, no-poll}
 use Rattle.record_local.specs.Local.{Called}

@@ -8,41 +8,20 @@ use mathlib.Core.Bool.{Bool, true, false, not, cond, _&&_, _||_}
 use mathlib.Core.List.{List, [], _∷_}
 use lib.Dec.{eqb}
 use lib.Bits.{bitOr}
-use borrow.Author.Tests.{eq-eqb, ne-eqb}
 use Rattle.frame.specs.Classes.{IsIdentify}
 use Rattle.frame.specs.Decoding.{decoded}
 use Rattle.frame.specs.Bits.{bit}
 use Rattle.frame.proofs.Bits.{bit-below, bit-zero, bit-or, bit-power}
 use Rattle.device.specs.Choose.{choose}
-use Rattle.device.specs.Poll.{isAssigned, sense, bitNumber, ppe, ppd, answer}
+use Rattle.device.specs.Poll.{isAssigned, sense, bitNumber, answer}
 use Rattle.device.specs.Take.{takes}
-use Rattle.device.specs.PollSentences.{Assigning, OnlyListeners, LeavesPoll, onBit, answersAt, IdyBits, pastAll}
-use Rattle.device.specs.PollSentences.{polledBy, PastAll, Each, someOn, allOn, SharedOr, SharedAnd}
+use Rattle.device.specs.PollSentences.{LeavesPoll, onBit, answersAt, IdyBits, pastAll, polledBy}
+use Rattle.device.specs.PollSentences.{PastAll, Each, someOn, allOn, SharedOr, SharedAnd}
 use Rattle.device.specs.declared.Device.{Device}
-use Rattle.device.proofs.Chosen.{chosen}
 use Rattle.device.proofs.Untouched.{Plain, NotRemote, untouched}
 use Rattle.device.proofs.Sentences.{idy-goes-on}
 
--- ---- PPE, PPD and PPU
-
-pub assigned-by : Assigning
-unfolding takes choose ppe ppd
-assigned-by =
-    record {
-      ppe = λ d f l h e. rw (e, eq-eqb (d .listener) 1 l, h);
-      ppd = λ d f l e. rw (e, eq-eqb (d .listener) 1 l);
-      ppu = λ d f e. rw e;
-    }
-
-pub only-listeners : OnlyListeners
-unfolding takes choose ppe ppd
-only-listeners =
-    record {
-      ppe = λ d f n e. rw (e, ne-eqb (d .listener) 1 n);
-      ppe-able = λ d f h e.
-          rw (e, h) (chosen (λ (x : Device). x ≡ d) (eqb (d .listener) 1) d d (λ l. refl) (λ l. refl));
-      ppd = λ d f n e. rw (e, ne-eqb (d .listener) 1 n);
-    }
+-- ---- what is left
 
 -- the sense and bit; the status and the ability
 assigned-plain : Plain (λ (x : Device). x .assigned)

@@ -25,7 +25,7 @@ pub fn refusal(number: u64) {
         1 => text(b"shape: lengths do not fit, or no set-up yet"),
         2 => text(b"unsound: the area, an item or a choice breaks a rule"),
         3 => text(b"no device: its number is too high"),
-        4 => text(b"bad frame: no such frame, kind, offset or C1"),
+        4 => text(b"bad frame: no such frame, kind, offset or C1, or no IDY"),
         5 => text(b"empty: no frame to take"),
         6 => text(b"full: no room for a frame"),
         7 => text(b"no ability: the device cannot do that"),
