@@ -31,9 +31,9 @@ use Rattle.saved.specs.Saved.{saved, savedSize, savedCount, savedDevices, forme
 use Rattle.saved.specs.Older.{old, zeroChoiceIn, opened, soundSave}
 use Rattle.saved.specs.Calls.{saveOf, saveWith, openWith}
 use Rattle.demands.specs.Calls.{Byte, numbers, Local, load, status, wish, key, pollStatus, calledBy, localBy}
-use Rattle.demands.specs.Calls.{Action, put, hop, take, local, drain, owes, save, Call, onArea, setUp, opens, onFrame}
-use Rattle.demands.specs.Calls.{decode, encode, pollCount, Answer, plain, hopped, taken, drained, owing, saving, decoded}
-use Rattle.demands.specs.Calls.{encoded, polled, told, pil, refusalIn, bare, acts}
+use Rattle.demands.specs.Calls.{Action, put, hop, take, local, drain, owes, save, Call, onArea, setUp, opens}
+use Rattle.demands.specs.Calls.{onFrame, decode, encode, pollCount, Answer, plain, hopped, taken, drained, owing}
+use Rattle.demands.specs.Calls.{saving, decoded, encoded, polled, told, pil, refusalIn, bare, acts}
 use Rattle.demands.specs.Conditions.{devicesAt, oldWithChoice, badC1, BadFrame, due}
 use Rattle.demands.specs.Demands.{Demand1}
 use Rattle.demands.proofs.Away.{whole}
@@ -256,7 +256,8 @@ opens-held s a = rw (← unsound-save (numbers s)) (go (formed mostDevices (numb
 
 -- ---- decoder and encoder
 
-decode-held : (f : ℕ) (a : List ℕ) → Held (onFrame (decode f)) a (pil (onFrame (decode f)) a) (due (onFrame (decode f)) a)
+decode-held : (f : ℕ) (a : List ℕ) →
+    Held (onFrame (decode f)) a (pil (onFrame (decode f)) a) (due (onFrame (decode f)) a)
 unfolding decodeOf
 decode-held f a = rw (turned-lt f frames 4 0) (go (ltb f frames))
   where
@@ -291,7 +292,8 @@ pub outside : (k o c : ℕ) → BadFrame (onFrame (encode k o c)) ≡ not (inLis
 outside k o c =
     rw (leb-turned o (offsetsOf k), c1-turned k c) (either-turned (ltb o (offsetsOf k)) (ltb c (c1sOf k)))
 
-encode-held : (k o c : ℕ) (a : List ℕ) → Held (onFrame (encode k o c)) a (pil (onFrame (encode k o c)) a) (due (onFrame (encode k o c)) a)
+encode-held : (k o c : ℕ) (a : List ℕ) →
+    Held (onFrame (encode k o c)) a (pil (onFrame (encode k o c)) a) (due (onFrame (encode k o c)) a)
 unfolding encodeOf
 encode-held k o c a = rw (outside k o c) (go (inList (message k o c)))
   where

@@ -51,8 +51,8 @@ record Gathered (ys xs : List ℕ) : Type 0 where
   idys : Every IsIdentify ys
   bits : map dataBits ys ≡ xs
 
-ran-polls : {s s′ : Device} {ts : List (Turn papers)} {xs ys : List ℕ} {hs : List _} → Ran {L = papers} s ts xs s′ ys hs →
-    Every IsIdentify xs → Gathered ys (answering s ts (map dataBits xs))
+ran-polls : {s s′ : Device} {ts : List (Turn papers)} {xs ys : List ℕ} {hs : List _} →
+    Ran {L = papers} s ts xs s′ ys hs → Every IsIdentify xs → Gathered ys (answering s ts (map dataBits xs))
 ran-polls stays u = record { idys = tt; bits = refl }
 ran-polls (hopping {s = s} {f = f} {ts = ts} {xs = xs} r) u =
     let g = ran-polls r (u .1) in

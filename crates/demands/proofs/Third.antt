@@ -218,7 +218,7 @@ module _ (a : List ℕ) (items : List Byte) (set : due (setUp items) a ≡ 0) wh
   ds = map powerOn (itemsOf n (numbers items))
 
   many : length ds ≡ n
-  many = length-map (itemsOf n (numbers items)) powerOn ∙ length-parts (itemWidth (length (numbers items)) n) n (numbers items)
+  many = length-map (itemsOf n (numbers items)) powerOn ∙ length-parts _ n (numbers items)
 
   -- the loop is an idle line
   powered-idle : toLoop (line.idle ds) ≡ poweredOn n (numbers items)

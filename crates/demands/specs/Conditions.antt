@@ -48,8 +48,8 @@ abbrev pub itemsIn : ℕ → List ℕ → List (List ℕ)
 itemsIn n items = parts (cond (eqb (length items) (longItemSize * n)) longItemSize itemSize) n items
 
 -- 1, Shape: the area's length isn't one of a loop, or not that of byte 0, or a save's output is wrong; at set up the
--- items' length isn't 12n or 13n for the n of the area's length, at an opening the area's length isn't that of the saved
--- loop
+-- items' length isn't 12n or 13n for the n of the area's length, at an opening the area's length isn't that of the
+-- saved loop
 abbrev pub Shape : Call → List ℕ → Bool
 Shape (onArea c) a =
     badOutput c a || (eqb (devicesAt (length a)) 0 || not (eqb (length a) (areaSize (countIn a))))
@@ -144,8 +144,8 @@ Full (drain b) a = false
 Full owes a = false
 Full (save out) a = false
 
--- a device lacks the ability that a local call asks for: load without 2, status without 4, wish without 128, poll status
--- without 1 of byte 7
+-- a device lacks the ability that a local call asks for: load without 2, status without 4, wish without 128, poll
+-- status without 1 of byte 7
 abbrev pub lacks : Local → Device → Bool
 lacks (load bs e) d = not (has d sendData)
 lacks (status s) d = not (has d sendStatus)

@@ -1,6 +1,6 @@
 -- The three demands on the model, and what 02 asks of the hops owed (k), of saved loops (a), of the limit on devices
--- (j), of END by choice (h), of clear, trigger, remote and local (d) and of parallel poll (f), over the very definitions
--- that the contracts of the exported functions cite.
+-- (j), of END by choice (h), of clear, trigger, remote and local (d) and of parallel poll (f), over the very
+-- definitions that the contracts of the exported functions cite.
 -- It leans on Calls, Conditions, Drains, Histories (the crate teeth says what it shuts out); frame's Messages,
 -- Classes, Decoding, Coding, Laws, Bits; coding's Coding; poll_count's Count; device's Sent, Sentences, RemoteTable,
 -- PollSentences, PollTable, and Take with the rules that it names; record_local's Local; record's Record, Parts, Sound,
@@ -358,16 +358,16 @@ pub record RemoteLocal : Type 0 where
   -- Every state is sound with either flag where local is with the flag clear, which is what zeros in the two bytes say.
   pub any-remote : AnyRemote
 
--- ---- Parallel poll (02, f). What the status call stores and what the count answers, demand 2 says; that statuses may be
--- set while frames are under way, demand 3.
+-- ---- Parallel poll (02, f). What the status call stores and what the count answers, demand 2 says; that statuses may
+-- be set while frames are under way, demand 3.
 
 -- a device after local calls
 abbrev pub afterCalls : Device → List Local → Device
 afterCalls d [] = d
 afterCalls d (c ∷ cs) = afterCalls (calledBy c d .device) cs
 
--- the data bits of IDYs after a device that they pass one after the other: each or-ed with the device's answer as its hop
--- finds it, after the local calls that it accepted before
+-- the data bits of IDYs after a device that they pass one after the other: each or-ed with the device's answer as its
+-- hop finds it, after the local calls that it accepted before
 abbrev pub answering : Device → List (Turn papers) → List ℕ → List ℕ
 answering d ts [] = []
 answering d ts (x ∷ xs) =
@@ -417,6 +417,6 @@ pub record ParallelPoll : Type 0 where
   pub shared-and : SharedAnd
   -- A rack of eight fixtures, each on its own bit, reads as its eight statuses.
   pub rack-reads : RackReads
-  -- With the ability every sense, bit and status is sound; without it zeros in their bytes are, as before, and no others.
+  -- With the ability every sense, bit and status is sound; without it only zeros in their bytes are, as before.
   pub any-poll : AnyPoll
   pub no-poll : NoPoll

@@ -1,5 +1,5 @@
--- The sentences of specs/PollSentences.antt: a bit of an or is one where either has it, and what a frame's rule is not for
--- it leaves (Untouched).
+-- The sentences of specs/PollSentences.antt but for those of Assigned: a bit of an or is one where either has it, and
+-- what a frame's rule is not for it leaves (Untouched).
 use Prim.Native.Nat.{ℕ, zero, suc, _^_, _≤_, max}
 use native.Mathlib.Nat.{max-zero, max-eq-right}
 use native.Mathlib.Omega.{arith}
@@ -18,45 +18,23 @@ use Rattle.device.specs.Take.{takes}
 use Rattle.device.specs.PollSentences.{LeavesPoll, onBit, answersAt, IdyBits, pastAll, polledBy}
 use Rattle.device.specs.PollSentences.{PastAll, Each, someOn, allOn, SharedOr, SharedAnd}
 use Rattle.device.specs.declared.Device.{Device}
-use Rattle.device.proofs.Untouched.{Plain, NotRemote, untouched}
+use Rattle.device.proofs.Untouched.{plain, untouched}
 use Rattle.device.proofs.Sentences.{idy-goes-on}
 
 -- ---- what is left
 
--- the sense and bit; the status and the ability
-assigned-plain : Plain (λ (x : Device). x .assigned)
-assigned-plain =
-    record {
-      listening = λ d x. refl;
-      talking = λ d x. refl;
-      placed = λ d x y. refl;
-      serving = λ d x. refl;
-      noting = λ d. refl;
-      counting = λ d x y z. refl;
-    }
-
-others-plain : Plain {A = ℕ × ℕ} (λ (x : Device). (x .pollstatus, x .further))
-others-plain =
-    record {
-      listening = λ d x. refl;
-      talking = λ d x. refl;
-      placed = λ d x y. refl;
-      serving = λ d x. refl;
-      noting = λ d. refl;
-      counting = λ d x y z. refl;
-    }
-
+-- the status and the ability
 others-left : (d : Device) (f : ℕ) →
     _≡_ {A = ℕ × ℕ} (takes d f .device .pollstatus, takes d f .device .further) (d .pollstatus, d .further)
 others-left d f =
-    untouched {A = ℕ × ℕ} (λ (x : Device). (x .pollstatus, x .further)) others-plain d f
+    untouched {A = ℕ × ℕ} _ (plain (λ r e a s k. (s, k))) d f
     (λ r. record { remoting = λ d x. refl; enabling = λ d x. refl }) (λ a d x. refl)
 
 pub leaves-poll : LeavesPoll
 leaves-poll =
     record {
       assigned = λ d f n.
-          untouched (λ (x : Device). x .assigned) assigned-plain d f
+          untouched {A = ℕ} _ (plain (λ r e a s k. a)) d f
           (λ r. record { remoting = λ d x. refl; enabling = λ d x. refl }) (λ a. absurd (n a));
       pollstatus = λ d f. ap (λ (p : ℕ × ℕ). p .0) (others-left d f);
       further = λ d f. ap (λ (p : ℕ × ℕ). p .1) (others-left d f);

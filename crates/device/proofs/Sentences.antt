@@ -43,7 +43,7 @@ use Rattle.device.proofs.Chosen.{chosen}
 use Rattle.device.proofs.Marked.{Shows, data-shows, idy-shows, reply, set, made, marked-kind, marked-code}
 use Rattle.device.proofs.Marked.{answers, marked-bits, marked-same, marked-keeps}
 use Rattle.device.proofs.Told.{told}
-use Rattle.device.proofs.Untouched.{Plain, untouched}
+use Rattle.device.proofs.Untouched.{plain, untouched}
 
 pub commands-go-on : CommandsGoOn
 commands-go-on d f c = told d f .command c
@@ -255,22 +255,9 @@ events-change-nothing d f (inl e) = rw e
 events-change-nothing d f (inr (inl e)) = rw e (listener-leaves d f Clear)
 events-change-nothing d f (inr (inr e)) = rw e (listener-leaves d f Trigger)
 
--- state and flag
-remote-plain : Plain {A = ℕ × ℕ} (λ (x : Device). (x .remote, x .enabled))
-remote-plain =
-    record {
-      listening = λ d x. refl;
-      talking = λ d x. refl;
-      placed = λ d x y. refl;
-      serving = λ d x. refl;
-      noting = λ d. refl;
-      counting = λ d x y z. refl;
-    }
-
 pub others-leave-remote : OthersLeaveRemote
 others-leave-remote d f n =
-    let e = untouched {A = ℕ × ℕ} (λ (x : Device). (x .remote, x .enabled)) remote-plain d f (λ r. absurd (n r))
-    (λ a d x. refl) in
+    let e = untouched {A = ℕ × ℕ} _ (plain (λ r e a s k. (r, e))) d f (λ r. absurd (n r)) (λ a d x. refl) in
     record { remote = ap (λ (p : ℕ × ℕ). p .0) e; enabled = ap (λ (p : ℕ × ℕ). p .1) e }
 
 pub ifc-leaves-remote : IfcLeavesRemote

@@ -37,6 +37,19 @@ pub record Plain {A : Type 0} (v : Device → A) : Type 0 where
   pub noting : (d : Device) → v (noting d) ≡ v d
   pub counting : (d : Device) (x y z : ℕ) → v (counting d x y z) ≡ v d
 
+-- so is whatever is made of these
+pub plain : {A : Type 0} (g : (remote enabled assigned pollstatus further : ℕ) → A) →
+    Plain (λ (d : Device). g (d .remote) (d .enabled) (d .assigned) (d .pollstatus) (d .further))
+plain g =
+    record {
+      listening = λ d x. refl;
+      talking = λ d x. refl;
+      placed = λ d x y. refl;
+      serving = λ d x. refl;
+      noting = λ d. refl;
+      counting = λ d x y z. refl;
+    }
+
 -- it is neither the state of remote and local nor the flag
 pub record NotRemote {A : Type 0} (v : Device → A) : Type 0 where
   pub remoting : (d : Device) (x : ℕ) → v (remoting d x) ≡ v d

@@ -1,5 +1,5 @@
--- Parallel poll (02, f; 001, section 2.12 and note 5 of the message table): how PPE, PPD and PPU give a device its sense
--- and bit and take them away, and what it answers to an IDY that passes.
+-- Parallel poll (02, f; 001, section 2.12 and note 5 of the message table): how PPE, PPD and PPU give a device its
+-- sense and bit and take them away, and what it answers to an IDY that passes.
 use Prim.Native.Nat.{ℕ, _+_, _/_, _%_, _^_}
 use mathlib.Core.Bool.{Bool}
 use lib.Dec.{eqb, ltb}

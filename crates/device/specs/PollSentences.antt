@@ -1,5 +1,5 @@
--- Sentences of 02, f, on parallel poll, and of 001, section 2.12: each holds for every device, sound or not, but for one
--- that asks for a status of 0 or 1. Proved in proofs/PollSentences.antt.
+-- Sentences of 02, f, on parallel poll, and of 001, section 2.12: each holds for every device, sound or not, but for
+-- one that asks for a status of 0 or 1. Proved in proofs/Assigned.antt and proofs/PollSentences.antt.
 use Prim.Native.Nat.{ℕ, _≤_}
 use mathlib.Core.Path.{_≡_}
 use mathlib.Core.Logic.{_⊎_}
@@ -20,8 +20,8 @@ use Rattle.device.specs.declared.Device.{Device}
 
 -- ---- PPE, PPD and PPU
 
--- PPE assigns sense and bit at an addressed listener with the ability, PPD takes them away at an addressed listener, and
--- PPU at every device;
+-- PPE assigns sense and bit at an addressed listener with the ability, PPD takes them away at an addressed listener,
+-- and PPU at every device;
 pub record Assigning : Type 0 where
   pub ppe : (d : Device) (f : ℕ) → d .listener ≡ 1 → hasFurther d parallelPoll ≡ true → Of Ppe f →
       takes d f .device ≡ assigning d (assignment (decoded f .offset))

@@ -252,22 +252,10 @@ module _ (d : Device) (k : Kept d) where
         polls = k .polls;
       }
 
-  pub assigning-kept : (x : ℕ) → pollRight (assigning d x) ≡ true → Kept (assigning d x)
-  assigning-kept x h =
-      record {
-        sized = k .sized;
-        made = k .made;
-        placed = k .placed;
-        listens = k .listens;
-        serves = k .serves;
-        remotes = k .remotes;
-        loads = k .loads;
-        talks = k .talks;
-        polls = h;
-      }
-
-  pub pollstatusing-kept : (s : ℕ) → pollRight (pollstatusing d s) ≡ true → Kept (pollstatusing d s)
-  pollstatusing-kept s h =
+  -- sense and bit x, and poll status s
+  pub polling-kept : (x s : ℕ) → pollRight (pollstatusing (assigning d x) s) ≡ true →
+      Kept (pollstatusing (assigning d x) s)
+  polling-kept x s h =
       record {
         sized = k .sized;
         made = k .made;

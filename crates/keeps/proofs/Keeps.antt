@@ -35,7 +35,7 @@ use Rattle.keeps.specs.Keeps.{ChoiceKeeps, KeyKeeps, PollStatusKeeps, Go
 use Rattle.keeps.proofs.Groups.{Kept, polled-of, kept-of, good-of, lt-out}
 use Rattle.keeps.proofs.Changes.{listening-kept, resting-kept, placed-kept, serving-kept, noting-kept}
 use Rattle.keeps.proofs.Changes.{remoting-kept, enabling-kept, loading-kept, choosing-kept, statusing-kept}
-use Rattle.keeps.proofs.Changes.{pollstatusing-kept}
+use Rattle.keeps.proofs.Changes.{polling-kept}
 use Rattle.keeps.proofs.Polls.{able-poll, none-kept, ppe-kept, ppd-kept}
 use Rattle.keeps.proofs.Replies.{Out, others, Sends, stops-out, continues-out}
 
@@ -355,8 +355,9 @@ poll-status-good d s g =
     let k = kept-of d g in
     let p = polled-of d (k .polls) in
     chosen (λ (c : Called). Good (c .device)) (hasFurther d parallelPoll) _ _
-    (λ a. good-of _ (pollstatusing-kept d k (yesOrNo s) (able-poll d p (d .assigned) (yesOrNo s) a (p .assignment)
-    (yes-few s))))
+    (λ a. good-of _
+    (polling-kept d k (d .assigned) (yesOrNo s)
+    (able-poll d p (d .assigned) (yesOrNo s) a (p .assignment) (yes-few s))))
     (λ a. g)
 
 pub last-is-data : LastIsData

@@ -1,5 +1,5 @@
--- The clause on poll holds of what PPE, PPD, PPU and the status call leave: with the ability every sense, bit and status
--- is right, and without sense and bit the rest stays so.
+-- The clause on poll holds of what PPE, PPD, PPU and the status call leave: with the ability every sense, bit and
+-- status is right, and without sense and bit the rest stays so.
 use Prim.Native.Nat.{ℕ, _+_, _≤_, _<_}
 use native.Mathlib.Omega.{arith}
 use mathlib.Core.Path.{_≡_, refl}
@@ -13,7 +13,7 @@ use Rattle.device.specs.declared.Device.{Device}
 use Rattle.device.proofs.Chosen.{chosen}
 use Rattle.record.specs.Sound.{only, isAssignment, pollRight}
 use Rattle.keeps.proofs.Groups.{Kept, Polled, polled-of, only-in}
-use Rattle.keeps.proofs.Changes.{assigning-kept}
+use Rattle.keeps.proofs.Changes.{polling-kept}
 
 module _ (d : Device) (p : Polled d) where
   -- with the ability
@@ -43,7 +43,7 @@ is-assignment s h =
 
 module _ (d : Device) (k : Kept d) where
   pub none-kept : Kept (assigning d unassigned)
-  none-kept = assigning-kept d k unassigned (none-poll d (polled-of d (k .polls)))
+  none-kept = polling-kept d k unassigned (d .pollstatus) (none-poll d (polled-of d (k .polls)))
 
   pub ppe-kept : (s : ℕ) → s < 16 → Kept (ppe d s)
   unfolding ppe
@@ -51,8 +51,8 @@ module _ (d : Device) (k : Kept d) where
       let p = polled-of d (k .polls) in
       chosen Kept (eqb (d .listener) 1) _ d
       (λ l. chosen Kept (hasFurther d parallelPoll) _ d
-      (λ a. assigning-kept d k (assignment s) (able-poll d p (assignment s) (d .pollstatus) a (is-assignment s h)
-      (p .status)))
+      (λ a. polling-kept d k (assignment s) (d .pollstatus)
+      (able-poll d p (assignment s) (d .pollstatus) a (is-assignment s h) (p .status)))
       (λ a. k))
       (λ l. k)
 

@@ -1,5 +1,5 @@
-// Parallel poll: the code of device's specs/Poll.antt, on the state that a frame can alter, with the status in the record
-// lent beside it (02, f; 001, 2.12).
+// Parallel poll: the code of device's specs/Poll.antt, on the state that a frame can alter, with the status in the
+// record lent beside it (02, f; 001, 2.12).
 use device::Device;
 use record::POLL_STATUS;
 use record::read::has_further;

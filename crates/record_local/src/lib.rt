@@ -1,5 +1,5 @@
-// The local calls of a device (01, The calls; 02, d, f and h), made in its record, refused with 7, 8, 9 in that order; 2,
-// for a load's choice, comes before the device is looked for. Only the bytes that a call speaks of are written.
+// The local calls of a device (01, The calls; 02, d, f and h), made in its record, refused with 7, 8, 9 in that order;
+// 2, for a load's choice, comes before the device is looked for. Only the bytes that a call speaks of are written.
 use device::Device;
 use record::CHOICE;
 use record::LOAD;

@@ -45,7 +45,8 @@ unfolding messages kindAt lookup within firstIn firstOf hasC1 offsetIn c1In choo
     aau toListener marked requested polls sst nrd aad returned heard dataOrEnd takes loads deviceOf recordOf zeros
     soundDevice soundRecord allowed parts join all framesOf linkOf soundSlot soundLink loopOf areaOf shapedWith sound
     judgeWith callWith putIn takeIn hopIn localIn loadIn isItems itemWidth itemsFit setUpWith canHop highest
-    drainFrom headOf recorded saved stands isOf headed formed contents savedBefore upgrade opened soundSave saveWith openWith
+    drainFrom headOf recorded saved stands isOf headed formed contents savedBefore upgrade opened soundSave saveWith
+    openWith
 example =
     record {
       set-up = refl;

@@ -12,7 +12,8 @@ use Rattle.device.specs.Take.{takes}
 use Rattle.area.specs.Loop.{Loop, countIn, loopOf, areaOf, device, link}
 use Rattle.calls.specs.Outcome.{After}
 use Rattle.demands.specs.Calls.{Byte, load, Action, put, hop, local, drain, save, Call, onArea, opens, onFrame, decode}
-use Rattle.demands.specs.Calls.{Answer, plain, hopped, taken, drained, owing, saving, decoded, encoded, polled, pil, refusalIn}
+use Rattle.demands.specs.Calls.{Answer, plain, hopped, taken, drained, owing, saving, decoded, encoded, polled, pil}
+use Rattle.demands.specs.Calls.{refusalIn}
 use Rattle.demands.specs.Conditions.{Shape, Unsound, NoDevice, Empty, Full, BadSave}
 use Rattle.demands.specs.Histories.{hopsBy}
 use Rattle.demands.specs.Demands.{Refuses, CanHop, ruled, Obeys}

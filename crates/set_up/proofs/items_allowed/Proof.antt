@@ -25,7 +25,7 @@ loop-holds c =
 
 -- the next item is there
 long : (c : tie.In-loop Inv-loop μ-loop) →
-    length (take (c .before .before .item-width .result) (c .before .loop .rest .now)) ≡ c .before .before .item-width .result
+    let w = c .before .before .item-width .result in length (take w (c .before .loop .rest .now)) ≡ w
 long c =
     let l = c .before .loop in
     length-take-le _ (l .rest .now) (there allowed _ _ _ (l .left) (l .rest .now) (l .inv) (omega arith))

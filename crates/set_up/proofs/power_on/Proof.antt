@@ -67,8 +67,8 @@ item-of-requires c κs =
     let w = b .before .item-width .result in
     let at = w * b .loop .i in
     let h = item (c .before) in
-    rw (add-sub-cancel-left at w, length-take-le w (drop at (s .args .items .now)) (simp length-drop (omega (arith, h))))
-    (h .few)
+    let long = length-take-le w (drop at (s .args .items .now)) (simp length-drop (omega (arith, h))) in
+    rw (add-sub-cancel-left at w, long) (h .few)
 
 -- the device that is made is that of the item
 made : (c : tie.After-power-on Inv-loop μ-loop) →

@@ -21,4 +21,5 @@ read-spec =
     (λ c. search needs)
     (λ c. search needs)
     (λ c. search needs)
-    (λ c. rw (c .before .before .before .before .before .before .before .before .before .before .before .word-at .ensures)))
+    (λ c. let r = c .before .before .before .before .before .before .before .before .before .before .before in
+    rw (r .word-at .ensures)))
