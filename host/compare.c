@@ -33,7 +33,7 @@ enum {
     LEAST = 100, /* how often each refusal must be given, and bytes come back, messages, hops owed, loads, ends of data,
                     events, set-ups, saves, openings, poll statuses and counts of polls be met in each way */
     LEAST_MOVES = 10, /* how often each message must come to a device in each state of remote and local and of polls,
-                         each IDY meet each answer, and each event come to one that is sending */
+                         each IDY meet each answer, each event come to a sender, and each number of ones be counted */
     LONG = 8,    /* a loop of so many devices or more is a long one */
     MOST_OWED = 2 * PIL_MOST_DEVICES * (PIL_MOST_DEVICES + 1), /* hops */
     FORMER_MOST = 15, /* devices of the longest loop before 02, j */
@@ -1973,8 +1973,8 @@ static int report_polls(void)
     enough &= report_answers();
     enough &= report_counts("polls not counted for a frame that is no IDY (0), a number that is no frame (1), counted "
                             "without C1 (2), with C1 (3)", countings, 0, COUNTINGS, LEAST);
-    enough &= report_counts("ones counted", ones, 0, DATA_BITS + 1, 2);
-    enough &= report_counts("lowest ones", lowests, 0, PIL_NO_BIT + 1, 2);
+    enough &= report_counts("ones counted", ones, 0, DATA_BITS + 1, LEAST_MOVES);
+    enough &= report_counts("lowest ones", lowests, 0, PIL_NO_BIT + 1, LEAST);
     return enough;
 }
 
@@ -1988,7 +1988,8 @@ static int report_tried_whole(void)
         bits += 8 * PIL_SAVE_HEAD_LENGTH * (1 + tried_whole[i] + tried_whole[i] + 1);
     all = head_bits == bits && editions == wrong;
     printf("bits of heads turned over in turn, each refused with 10: %" PRIu64 "; editions that there are not, each "
-           "refused with 10: %" PRIu64 "%s\n", head_bits, editions, all ? "" : "  NOT ALL");
+           "refused with 10: %" PRIu64 "; with these and the codes tried %" PRIu64 " calls, all equal%s\n", head_bits,
+           editions, made, all ? "" : "  NOT ALL");
     return all;
 }
 
@@ -2006,7 +2007,6 @@ static int report_saves(void)
     enough &= report_counts("no saves: cut (0), longer (1), another byte in a head (2), out of order (3), another "
                             "count (4), of no or too many devices (5), of no edition (6)", spoilings, 0, SPOILINGS,
                             LEAST);
-    enough &= report_tried_whole();
     return enough;
 }
 
@@ -2058,10 +2058,12 @@ int main(int argc, char **argv)
     chance_seed(seed);
     while (made < wanted)
         history();
+    /* Of the histories alone: the codes and polls tried whole would meet their counts by themselves. */
+    enough = report();
     compare_saves();
     compare_small_codes();
     compare_wide_codes();
-    enough = report();
+    enough &= report_tried_whole();
     compare_table();
     enough &= compare_remote();
     enough &= compare_polls();

@@ -16,8 +16,8 @@ enum {
     MOST_PUTS = 80,
     MOST_FRAMES = PIL_LINK_DEPTH * (PIL_MOST_DEVICES + 1) + MOST_PUTS, /* in the links at first, and put */
     MOST_LOCALS = 120,
-    LEAST = 100, /* how many histories must begin from an opening, as many of them of an old save, how often one must be
-                    reopened and tell each event, and how often a key, poll status, PPE or IDY must change something */
+    LEAST = 100, /* openings, old saves, frames in links at first, reopenings, keys to local, poll statuses to another,
+                    clears, triggers, changes of byte 22 and IDYs with a bit made a one: so many of each, or more */
     LEAST_LONGEST = 50 /* how many must have as many devices as there can be */
 };
 

@@ -5,8 +5,7 @@
 #include <stdint.h>
 
 /* Runs that many random histories; prints the first that differs from its right-round history and exits 1. Gives 0 if
-   too few began from an opened save, old or not, or held one, or too few clears, triggers, keys, poll statuses, PPEs,
-   PPDs, PPUs or IDYs did something. */
+   they reached too little: LEAST and LEAST_LONGEST in order.c say of what. Any change of byte 22 counts as one. */
 int order_histories(uint64_t seed, uint64_t histories);
 
 #endif

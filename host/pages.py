@@ -49,7 +49,7 @@ def links(page):
             tried['links'] += 1
             (page.parent / target).exists() or fail('%s links to %s, which is not there' % (page.name, target))
     for name, target in re.findall(r'\[`(\w+)`\]\(([^)]+\.antt)\)', page.read_text()):
-        definition = r'^(?:unfoldable |abbrev )?pub (?:record )?%s :' % name
+        definition = r'^(?:unfoldable |abbrev )?pub (?:record )?%s(?: \([^)]*\))* :' % name
         if not re.search(definition, (page.parent / target).read_text(), re.M):
             fail('%s: %s does not define %s' % (page.name, target, name))
 

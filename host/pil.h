@@ -207,6 +207,7 @@ enum {
     PIL_RECORD_TALKER = 5,       /* talker state */
     PIL_RECORD_SERVICE = 6,      /* service state */
     PIL_RECORD_MORE = 7,         /* further abilities, 0 or 1 */
+    PIL_RECORD_ZERO = 7,         /* its name before 4.1, when it was zero */
     PIL_RECORD_NRD = 8,          /* 1 if NRD was seen while sending, else 0 */
     PIL_RECORD_STATUS = 9,       /* status byte */
     PIL_RECORD_ACCESSORY = 10,   /* accessory ID */
@@ -283,7 +284,7 @@ enum {
    PIL_POLL_SENSE + 5 has the listeners show a yes on D6. */
 enum {
     PIL_POLL_NONE = 0,       /* not at all, as at power-on, after PPU and, at a listener, after PPD */
-    PIL_POLL_BIT = 7,        /* where the number of its data bit stands, 0 for D1 to 7 for D8 */
+    PIL_POLL_BIT = 7,        /* mask: the number of its data bit, 0 for D1 to 7 for D8 */
     PIL_POLL_SENSE = 8,      /* set: it makes that bit a one where its poll status is yes, not set: where it is no. Else
                                 the bit goes on as it came */
     PIL_POLL_CONFIGURED = 16 /* set since a PPE told it bit and sense */

@@ -429,7 +429,7 @@ static void poll_status_cases(void)
     check("poll status, told without the ability, device 1", pil_poll_status(area, sizeof area, 1, 1), PIL_UNSOUND);
 }
 
-/* One byte of a record of power-on made another: a hop is refused with 2, or with 5 for want of a frame. */
+/* A listener, up to two bytes of its record changed: a hop is refused with 2, or with 5 for want of a frame. */
 static void judged(const char *what, unsigned more, unsigned place, unsigned value, unsigned refusal)
 {
     polled_at_5();

@@ -1,4 +1,4 @@
--- The sizes of the lent area (01, The lent area) and of a set-up item (01, The calls), each said once.
+-- The sizes of the lent area (01, The lent area) and of set-up items (01, The calls; 02, f), each said once.
 use Prim.Native.Nat.{ℕ, _+_, _*_, _≤_}
 use mathlib.Core.Path.{_≡_}
 use mathlib.Core.List.{List}

@@ -1,5 +1,5 @@
--- Set up: the area is blank, and then holds the first i items' devices and blank ones, till there are no blank ones
--- left.
+-- Set up: the area is blank, and then holds the first i items' devices and blank ones, till none is blank. An item of
+-- 12 bytes is one of 13 with a zero behind it.
 use mathlib.Core.Path.{_≡_, refl, sym, ap, _∙_}
 use mathlib.Core.List.{List, [], _∷_, _++_, append-nil}
 use mathlib.Core.Bool.{Bool, true, false, cond, _||_}

@@ -14,7 +14,7 @@ use Rattle.device.specs.PollSentences.{polledBy}
 use Rattle.device.specs.declared.Device.{Device}
 use Rattle.device.proofs.Sentences.{idy-goes-on}
 use Rattle.device.proofs.Assigned.{assigned-by, only-listeners}
-use Rattle.device.proofs.PollSentences.{leaves-poll, idy-bits, shared-or, shared-and}
+use Rattle.device.proofs.PollSentences.{leaves-poll, idy-bits, idy-c1, shared-or, shared-and}
 use Rattle.device.proofs.PollTable.{note-5, rack-reads}
 use Rattle.record.proofs.Laws.{any-poll, no-poll}
 use Rattle.record_local.specs.Local.{Called}
@@ -162,6 +162,7 @@ parallel-poll =
     record {
       note-5 = note-5;
       idy-bits = idy-bits;
+      idy-c1 = idy-c1;
       assigning = assigned-by;
       only-listeners = only-listeners;
       leaves-poll = leaves-poll;

@@ -47,9 +47,8 @@ badItems bytes n = not (eqb bytes (itemSize * n) || eqb bytes (longItemSize * n)
 abbrev pub itemsIn : ℕ → List ℕ → List (List ℕ)
 itemsIn n items = parts (cond (eqb (length items) (longItemSize * n)) longItemSize itemSize) n items
 
--- 1, Shape: the area's length isn't one of a loop, or not that of byte 0, or a save's output is wrong; at set up the
--- items' length isn't 12n or 13n for the n of the area's length, at an opening the area's length isn't that of the
--- saved loop
+-- 1, Shape: the area's length isn't a loop's, or not byte 0's, or a save's output is wrong; at set up the items' length
+-- isn't 12n or 13n, n being by the area's length; at an opening the area's length isn't the saved loop's
 abbrev pub Shape : Call → List ℕ → Bool
 Shape (onArea c) a =
     badOutput c a || (eqb (devicesAt (length a)) 0 || not (eqb (length a) (areaSize (countIn a))))

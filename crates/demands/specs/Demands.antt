@@ -20,7 +20,8 @@ use Rattle.device.specs.Sent.{Sent}
 use Rattle.device.specs.Sentences.{EndWhereAsked, EndOnlyAsked, EventsReported, EventsChangeNothing}
 use Rattle.device.specs.Sentences.{OthersLeaveRemote, IfcLeavesRemote, OnlyEnabled, GtlOnlyListener, KeyOnlyUnlocked}
 use Rattle.device.specs.RemoteTable.{RemoteTable}
-use Rattle.device.specs.PollSentences.{Assigning, OnlyListeners, LeavesPoll, IdyBits, polledBy, SharedOr, SharedAnd}
+use Rattle.device.specs.PollSentences.{Assigning, OnlyListeners, LeavesPoll, IdyBits, IdyC1, polledBy}
+use Rattle.device.specs.PollSentences.{SharedOr, SharedAnd}
 use Rattle.device.specs.Poll.{answer}
 use Rattle.device.specs.PollTable.{Note5, RackReads}
 use Rattle.device.specs.declared.Device.{Device}
@@ -400,16 +401,18 @@ AsTheyStood = (ds : List Device) (T : ℕ → List (Turn papers)) (xs : List ℕ
     answeringAll ds T xs ≡ map (λ x. polledBy x ds) xs
 
 pub record ParallelPoll : Type 0 where
-  -- Each sense, bit and status does what note 5 of the message table says; no bit that is one is cleared.
+  -- Each sense, bit and status does what note 5 of the message table says; no bit that is one is cleared, and C1 stays
+  -- with the service request.
   pub note-5 : Note5
   pub idy-bits : IdyBits
+  pub idy-c1 : IdyC1
   -- PPE and PPD act at addressed listeners alone, PPE only with the ability, PPU at every device; no other message
   -- changes sense and bit, and none the status.
   pub assigning : Assigning
   pub only-listeners : OnlyListeners
   pub leaves-poll : LeavesPoll
-  -- Whatever the order of hops, with several IDYs under way at once, each gathers the devices' answers; where no status
-  -- is set meanwhile, those are the answers of the devices as they stood.
+  -- Whatever the order of hops, with several IDYs under way at once, each gathers the devices' answers; where no local
+  -- call is made meanwhile, those are the answers of the devices as they stood.
   pub polled-round : (a : List ℕ) (ss : List Step) → Polls a ss → PolledRound a ss
   pub as-they-stood : AsTheyStood
   -- Several devices on one bit give the or of their statuses with sense 1, and the negated and with sense 0.
@@ -417,6 +420,7 @@ pub record ParallelPoll : Type 0 where
   pub shared-and : SharedAnd
   -- A rack of eight fixtures, each on its own bit, reads as its eight statuses.
   pub rack-reads : RackReads
-  -- With the ability every sense, bit and status is sound; without it only zeros in their bytes are, as before.
+  -- With the ability a device is as sound with any sense, bit and status as with none and status 0; without it, only so
+  -- are their bytes right, and then they ask for nothing: an area from before is as sound as it was.
   pub any-poll : AnyPoll
   pub no-poll : NoPoll

@@ -1,5 +1,5 @@
 -- What a device does with the frames of a class: data or end below 0x400, identify from 0x600 on, nothing past
--- 2,047; and the codes and addresses of AAD.
+-- 2,047; and the numbers that AAD and PPE carry.
 use Prim.Native.Nat.{ℕ, _≤_, _<_}
 use mathlib.Core.Path.{_≡_}
 use mathlib.Core.Logic.{⊎-elim}

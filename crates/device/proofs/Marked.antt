@@ -1,7 +1,7 @@
 -- A DAB, END or IDY as it goes out, C1 set if service is 1: it is decoded as it was made, by the laws of the codes.
 use Prim.Native.Nat.{ℕ, _*_, _≤_, _<_}
 use mathlib.Core.Path.{_≡_, refl, sym, ap, _∙_}
-use mathlib.Core.Bool.{true}
+use mathlib.Core.Bool.{Bool, true, false, cond}
 use native.Mathlib.Omega.{arith}
 use lib.Bits.{or-lt}
 use lib.Dec.{eqb}
@@ -13,6 +13,7 @@ use Rattle.frame.specs.Laws.{CodeOf}
 use Rattle.frame.specs.declared.Message.{Message}
 use Rattle.frame.proofs.Rows.{within-kind}
 use Rattle.frame.proofs.Laws.{data-free, idy-free, Placed, placed, offsets-free, c1s-free, has, free}
+use Rattle.device.specs.Choose.{choose}
 use Rattle.device.specs.Device.{sendingStatus, sendingDeviceID, asking}
 use Rattle.device.specs.Poll.{isAssigned, sense, bitNumber, answer, answered}
 use Rattle.device.specs.Reply.{withC1, marked, otherByte}
@@ -109,6 +110,15 @@ module _ (d : Device) (m : Message) where
 
     pub marked-below : marked d m < frames
     marked-below = either (λ x. x < frames) (made m s .below) (made (withC1 m) (set s) .below)
+
+    -- C1 is one where the device asks for service, and else as it was made
+    pub marked-c1 : decoded (marked d m) .c1 ≡ cond (eqb (d .service) asking) 1 (m .c1)
+    unfolding marked choose
+    marked-c1 = go (eqb (d .service) asking)
+      where
+        go : (t : Bool) → decoded (choose t (frameOf (withC1 m)) (frameOf m)) .c1 ≡ cond t 1 (m .c1)
+        go true = ap (λ (n : Message). n .c1) (made (withC1 m) (set s) .again)
+        go false = ap (λ (n : Message). n .c1) (made m s .again)
 
     -- C1 is set
     pub marked-asks : d .service ≡ asking → ShowsC1 (marked d m)

@@ -13,11 +13,13 @@ use Rattle.frame.specs.Decoding.{decoded}
 use Rattle.frame.specs.Bits.{bit}
 use Rattle.frame.proofs.Bits.{bit-below, bit-zero, bit-or, bit-power}
 use Rattle.device.specs.Choose.{choose}
-use Rattle.device.specs.Poll.{isAssigned, sense, bitNumber, answer}
+use Rattle.device.specs.Poll.{isAssigned, sense, bitNumber, answer, answered}
 use Rattle.device.specs.Take.{takes}
-use Rattle.device.specs.PollSentences.{LeavesPoll, onBit, answersAt, IdyBits, pastAll, polledBy}
+use Rattle.device.specs.PollSentences.{LeavesPoll, onBit, answersAt, IdyBits, IdyC1, pastAll, polledBy}
 use Rattle.device.specs.PollSentences.{PastAll, Each, someOn, allOn, SharedOr, SharedAnd}
 use Rattle.device.specs.declared.Device.{Device}
+use Rattle.device.proofs.Classes.{idy-frame}
+use Rattle.device.proofs.Marked.{idy-shows, answers, marked-c1}
 use Rattle.device.proofs.Untouched.{plain, untouched}
 use Rattle.device.proofs.Sentences.{idy-goes-on}
 
@@ -66,6 +68,11 @@ bit-answered i x d = bit-or i x (answer d) ∙ ap (λ (y : ℕ). max (bit i x) y
 
 pub idy-bits : IdyBits
 idy-bits i d f h = ap (λ (x : ℕ). bit i x) (idy-goes-on .answered-bits d f h) ∙ bit-answered i (decoded f .offset) d
+
+pub idy-c1 : IdyC1
+idy-c1 d f i =
+    rw (idy-frame d f (i .first) (i .past))
+    (marked-c1 d (answered d (decoded f)) (answers d (idy-shows f (i .first) (i .past))))
 
 -- ---- an IDY past several devices
 

@@ -1,4 +1,5 @@
--- What is told of every frame: sentences of specs/Sentences.antt together, so that the rules are gone through once.
+-- What is told of every frame: sentences of specs/Sentences.antt together, so that the rules are gone through once for
+-- all of these (Untouched has those that only leave a value).
 use Prim.Native.Nat.{ℕ, _+_, _≤_, _<_}
 use mathlib.Core.Path.{_≡_, refl, sym, ap, _∙_}
 use mathlib.Core.Logic.{_⊎_, inl, inr, ⊎-elim}

@@ -11,7 +11,7 @@ use Rattle.frame.specs.declared.Kind.the-variants.{Ppe, Ppd, Ppu}
 use Rattle.frame.specs.Classes.{IsIdentify}
 use Rattle.frame.specs.Decoding.{decoded}
 use Rattle.frame.specs.Bits.{bit}
-use Rattle.device.specs.Device.{parallelPoll, hasFurther}
+use Rattle.device.specs.Device.{asking, parallelPoll, hasFurther}
 use Rattle.device.specs.Change.{assigning}
 use Rattle.device.specs.Poll.{assignment, unassigned, isAssigned, sense, bitNumber, answer}
 use Rattle.device.specs.Take.{takes}
@@ -58,6 +58,12 @@ abbrev pub IdyBits : Type 0
 IdyBits =
     (i : ℕ) (d : Device) (f : ℕ) → IsIdentify f →
     bit i (decoded (takes d f .frame) .offset) ≡ cond (answersAt i d) 1 (bit i (decoded f .offset))
+
+-- Its C1 is that of 01, whatever the device answers.
+abbrev pub IdyC1 : Type 0
+IdyC1 =
+    (d : Device) (f : ℕ) → IsIdentify f →
+    decoded (takes d f .frame) .c1 ≡ cond (eqb (d .service) asking) 1 (decoded f .c1)
 
 -- ---- An IDY past several devices
 

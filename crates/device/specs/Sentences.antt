@@ -1,6 +1,5 @@
--- Sentences of 01, "What a device does with a frame", in its order, and of 02, b, d, f and h: each holds for every
--- frame that it speaks of and every device, sound or not, but for those that ask for bytes. Proved in
--- proofs/Sentences.antt.
+-- Sentences of 01, "What a device does with a frame", and of 02, b, d, f and h, on every frame that they speak of and
+-- every device, sound or not, but for those that ask for bytes. Proved in proofs/Sentences.antt.
 use Prim.Native.Nat.{ℕ, _+_, _≤_, _<_}
 use mathlib.Core.Path.{_≡_}
 use mathlib.Core.Bool.{true}

@@ -7,7 +7,9 @@ use state::State;
 ghost use mathlib.Core.Path.{_≡_};
 ghost use Prim.Native.Nat.{_<_};
 ghost use lib.ListN.{length};
-ghost use Rattle.device.specs.Poll.{ppe, ppd, ppu, answer};
+ghost use Rattle.device.specs.Choose.{choose};
+ghost use Rattle.device.specs.Change.{assigning};
+ghost use Rattle.device.specs.Poll.{unassigned, ppe, ppd, ppu, answer};
 ghost use Rattle.device.specs.declared.Device.{Device};
 ghost use Rattle.record.specs.Record.{recordSize};
 ghost use Rattle.state.specs.State.{with, inRecord};
@@ -25,20 +27,26 @@ pub fn ppe(state: State, rec: &[u8], sbbb: u8) -> State
     state
 }
 
-pub fn ppu(state: State) -> State
-    ensures { λ r. ⌜ ((d : Device) → with d r ≡ ppu (with d state)) ⌝ }
+// No sense and bit any more, where this is so.
+fn unassign(state: State, here: bool) -> State
+    ensures { λ r. ⌜ ((d : Device) → with d r ≡ choose here (assigning (with d state) unassigned) (with d state)) ⌝ }
 {
-    state.assigning(Device::UNASSIGNED)
+    if here {
+        return state.assigning(Device::UNASSIGNED);
+    }
+    state
 }
 
-// At an addressed listener what PPU does at every device.
 pub fn ppd(state: State) -> State
     ensures { λ r. ⌜ ((d : Device) → with d r ≡ ppd (with d state)) ⌝ }
 {
-    if state.listener == 1 {
-        return ppu(state);
-    }
-    state
+    unassign(state, state.listener == 1)
+}
+
+pub fn ppu(state: State) -> State
+    ensures { λ r. ⌜ ((d : Device) → with d r ≡ ppu (with d state)) ⌝ }
+{
+    unassign(state, true)
 }
 
 // What the device adds to the data bits of an IDY.
