@@ -35,8 +35,8 @@ pub struct State {
     pub sent: u8,
     pub replied: u8,
     pub service: u8,
-    pub enabled: u8,
     pub remote: u8,
+    pub enabled: u8,
     pub assigned: u8,
 }
 
