@@ -29,7 +29,7 @@ use Rattle.order.proofs.Idle.{Empty, idle-empty}
 use Rattle.order.proofs.Streams.{Ran, stays, hopping, acting, Flows, at-tail, at-cell, Steps, run-ok, steps-flows}
 use Rattle.demands.specs.Calls.{calledBy}
 use Rattle.demands.specs.Histories.{Step, acceptedBy, papers, lineOf, areaLeft, framesPut, framesTaken, turnsOf}
-use Rattle.demands.specs.Demands.{AllEmpty, afterCalls, answering, answeringAll, dataBits, Polls, PolledRound}
+use Rattle.demands.specs.Demands.{AllEmpty, afterCalls, answering, answeringAll, bitsOf, Polls, PolledRound}
 use Rattle.demands.specs.Demands.{AsTheyStood, ParallelPoll}
 use Rattle.demands.proofs.Bridge.{toLoop}
 use Rattle.demands.proofs.Rendered.{R, puts-are, taken-are, turns-are}
@@ -49,10 +49,10 @@ accepted c h = go (eqb (c .refusal) 0) h
 -- the IDYs ys, with these data bits
 record Gathered (ys xs : List ℕ) : Type 0 where
   idys : Every IsIdentify ys
-  bits : map dataBits ys ≡ xs
+  bits : map bitsOf ys ≡ xs
 
 ran-polls : {s s′ : Device} {ts : List (Turn papers)} {xs ys : List ℕ} {hs : List _} →
-    Ran {L = papers} s ts xs s′ ys hs → Every IsIdentify xs → Gathered ys (answering s ts (map dataBits xs))
+    Ran {L = papers} s ts xs s′ ys hs → Every IsIdentify xs → Gathered ys (answering s ts (map bitsOf xs))
 ran-polls stays u = record { idys = tt; bits = refl }
 ran-polls (hopping {s = s} {f = f} {ts = ts} {xs = xs} r) u =
     let g = ran-polls r (u .1) in
@@ -62,7 +62,7 @@ ran-polls (hopping {s = s} {f = f} {ts = ts} {xs = xs} r) u =
     }
 ran-polls (acting {s = s} {c = c} {ts = ts} {xs = xs} e r) u =
     let g = ran-polls r u in
-    record { idys = g .idys; bits = g .bits ∙ rw (accepted (calledBy c s) e) (go (map dataBits xs)) }
+    record { idys = g .idys; bits = g .bits ∙ rw (accepted (calledBy c s) e) (go (map bitsOf xs)) }
   where
     go : (zs : List ℕ) → answering (calledBy c s .device) ts zs ≡ answering s (does c ∷ ts) zs
     go [] = refl
@@ -76,7 +76,7 @@ through q X xs q′ e z z′ = cc (append-nil xs)
 
 flow-polls : {T : ℕ → List (Turn papers)} {G : ℕ → List _} {o X : List ℕ} {l l′ : line.Loop papers} →
     Flows {L = papers} T G o X l l′ → Empty l → Empty l′ → Every IsIdentify X →
-    Gathered o (answeringAll (flat.statesOf l) T (map dataBits X))
+    Gathered o (answeringAll (flat.statesOf l) T (map bitsOf X))
 flow-polls (at-tail {o = o} {X = X} {q = q} {q′ = q′} t g e) z z′ u =
     rw (through q X o q′ e z z′) (record { idys = u; bits = refl })
 flow-polls (at-cell {X = X} {q = q} {q′ = q′} xs ys e a k) z z′ u =
@@ -102,7 +102,7 @@ module _ (l : line.Loop papers) (good : Sound-loop (toLoop l)) (ss : List Step) 
 
     gathered : Gathered (taken ((line.run l (callsOf R ss)) .1))
         (answeringAll (flat.statesOf l) (turns ((line.run l (callsOf R ss)) .1))
-        (map dataBits (puts ((line.run l (callsOf R ss)) .1))))
+        (map bitsOf (puts ((line.run l (callsOf R ss)) .1))))
     gathered =
         flow-polls (steps-flows steps) empty-line (idle-empty papers (left l good ss again))
         (rw (puts-are l good ss) at idys)

@@ -379,8 +379,9 @@ abbrev pub answeringAll : List Device → (ℕ → List (Turn papers)) → List 
 answeringAll [] T xs = xs
 answeringAll (d ∷ ds) T xs = answeringAll ds (λ i. T (suc i)) (answering d (T 0) xs)
 
-abbrev pub dataBits : ℕ → ℕ
-dataBits f = decoding f .offset
+-- the data bits of a frame
+abbrev pub bitsOf : ℕ → ℕ
+bitsOf f = decoding f .offset
 
 -- a history that puts nothing but IDYs, and has empty links before and after it
 pub record Polls (a : List ℕ) (ss : List Step) : Type 0 where
@@ -392,8 +393,8 @@ pub record Polls (a : List ℕ) (ss : List Step) : Type 0 where
 -- IDYs are taken, as many as were put, with those data bits.
 pub record PolledRound (a : List ℕ) (ss : List Step) : Type 0 where
   pub still-idys : Every IsIdentify (framesTaken a ss)
-  pub gathered : map dataBits (framesTaken a ss) ≡
-      answeringAll (loopOf a .devices) (turnsOf a ss) (map dataBits (framesPut a ss))
+  pub gathered : map bitsOf (framesTaken a ss) ≡
+      answeringAll (loopOf a .devices) (turnsOf a ss) (map bitsOf (framesPut a ss))
 
 -- Without local calls those are the bits that each came with, or-ed with every device's answer.
 abbrev pub AsTheyStood : Type 0
@@ -420,7 +421,7 @@ pub record ParallelPoll : Type 0 where
   pub shared-and : SharedAnd
   -- A rack of eight fixtures, each on its own bit, reads as its eight statuses.
   pub rack-reads : RackReads
-  -- With the ability a device is as sound with any sense, bit and status as with none and status 0; without it, only so
-  -- are their bytes right, and then they ask for nothing: an area from before is as sound as it was.
+  -- With the ability a device is as sound with any sense, bit and status as with none and status 0. Without it a sound
+  -- one has none and status 0, the zeros of every earlier area, and the clause on poll then asks for nothing more.
   pub any-poll : AnyPoll
   pub no-poll : NoPoll

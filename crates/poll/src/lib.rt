@@ -27,7 +27,7 @@ pub fn ppe(state: State, rec: &[u8], sbbb: u8) -> State
     state
 }
 
-// No sense and bit any more, where this is so.
+// Sense and bit are taken away, if the message acts here.
 fn unassign(state: State, here: bool) -> State
     ensures { λ r. ⌜ ((d : Device) → with d r ≡ choose here (assigning (with d state) unassigned) (with d state)) ⌝ }
 {

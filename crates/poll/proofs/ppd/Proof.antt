@@ -1,4 +1,4 @@
--- `poll::ppd` meets its contract: the device is an addressed listener, or nothing changes.
+-- `poll::ppd` meets its contract: `unassign` is asked by the test of the definition.
 use borrow.Author.Needs.{needs}
 use Rattle.device.specs.Poll.{ppd}
 use Rattle.poll.proofs.ppd.Statement.{statement}

@@ -1,4 +1,4 @@
--- `poll::ppu` meets its contract: sense and bit go at every device.
+-- `poll::ppu` meets its contract: `unassign` acts, since its test is true at every device.
 use borrow.Author.Needs.{needs}
 use Rattle.device.specs.Choose.{choose}
 use Rattle.poll.proofs.ppu.Statement.{statement}
