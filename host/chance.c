@@ -80,6 +80,8 @@ static unsigned chance_abilities(void)
 {
     unsigned abilities = one_in(2) ? 0xff : below(256);
 
+    if (one_in(10))
+        abilities &= ~replies;
     if (one_in(3))
         abilities &= ~(unsigned)PIL_ABILITY_UNADDRESS;
     if (!(abilities & PIL_ABILITY_STATUS))
@@ -89,7 +91,7 @@ static unsigned chance_abilities(void)
     return abilities;
 }
 
-/* Small addresses mostly, so that devices, LAD and TAD meet; the last ones for the end of the range. */
+/* Small addresses mostly, so that devices, LAD, TAD and SAD meet; the last ones for the end of the range. */
 static unsigned chance_address(void)
 {
     switch (below(5)) {
@@ -101,7 +103,27 @@ static unsigned chance_address(void)
 
 size_t chance_item_length(void)
 {
-    return one_in(3) ? PIL_ITEM_LENGTH : PIL_POLL_ITEM_LENGTH;
+    if (one_in(5))
+        return PIL_ITEM_LENGTH;
+    return one_in(4) ? PIL_POLL_ITEM_LENGTH : PIL_EXTENDED_ITEM_LENGTH;
+}
+
+/* Half of the devices are extended, and some more than half can be polled. */
+static unsigned chance_more(void)
+{
+    static const uint8_t mores[] = {0, PIL_MORE_POLL, PIL_MORE_POLL, PIL_MORE_POLL, PIL_MORE_EXTENDED,
+                                    PIL_MORE_EXTENDED, PIL_MORE_POLL | PIL_MORE_EXTENDED,
+                                    PIL_MORE_POLL | PIL_MORE_EXTENDED};
+
+    return mores[below(sizeof mores)];
+}
+
+/* An extended device has no auto address, and a second address where the item is long enough. */
+static void chance_extended_item(uint8_t *item, size_t length)
+{
+    item[PIL_ITEM_ABILITIES] &= (uint8_t)~PIL_ABILITY_AUTO_ADDRESS;
+    if (length > PIL_ITEM_SECOND)
+        item[PIL_ITEM_SECOND] = (uint8_t)(one_in(4) ? PIL_NO_ADDRESS : chance_address());
 }
 
 static void chance_item(uint8_t *item, size_t length)
@@ -113,13 +135,32 @@ static void chance_item(uint8_t *item, size_t length)
     item[PIL_ITEM_ID_LENGTH] = (uint8_t)below(PIL_MOST_ID + 1);
     chance_bytes(item + PIL_ITEM_ID, item[PIL_ITEM_ID_LENGTH]);
     if (length > PIL_ITEM_MORE)
-        item[PIL_ITEM_MORE] = one_in(4) ? 0 : PIL_MORE_POLL;
+        item[PIL_ITEM_MORE] = (uint8_t)chance_more();
+    if (length > PIL_ITEM_MORE && item[PIL_ITEM_MORE] & PIL_MORE_EXTENDED)
+        chance_extended_item(item, length);
 }
 
 void chance_items(uint8_t *items, unsigned n, size_t length)
 {
     for (unsigned i = 0; i < n; i++)
         chance_item(items + i * length, length);
+}
+
+/* What makes an item longer than 12 bytes not allowed: further abilities that there are not, both ways to get an
+   address, or a second address that is none or that a simple device has. */
+static void spoil_longer_item(uint8_t *item, size_t length)
+{
+    switch (below(length > PIL_ITEM_SECOND ? 4 : 2)) {
+    case 0: item[PIL_ITEM_MORE] = (uint8_t)(one_in(2) ? 4 : 4 + below(252)); break;
+    case 1:
+        item[PIL_ITEM_MORE] |= PIL_MORE_EXTENDED;
+        item[PIL_ITEM_ABILITIES] |= PIL_ABILITY_AUTO_ADDRESS;
+        break;
+    case 2: item[PIL_ITEM_SECOND] = (uint8_t)(one_in(2) ? 32 : 32 + below(224)); break;
+    default:
+        item[PIL_ITEM_MORE] &= (uint8_t)~PIL_MORE_EXTENDED;
+        item[PIL_ITEM_SECOND] = (uint8_t)(1 + below(31));
+    }
 }
 
 void spoil_item(uint8_t *item, size_t length)
@@ -131,8 +172,8 @@ void spoil_item(uint8_t *item, size_t length)
     unsigned id_length = below(PIL_MOST_ID);
     unsigned past = id_length + below(PIL_MOST_ID - id_length);
 
-    if (length > PIL_ITEM_MORE && one_in(3)) {
-        item[PIL_ITEM_MORE] = (uint8_t)(one_in(2) ? 2 : 2 + below(254));
+    if (length > PIL_ITEM_MORE && one_in(2)) {
+        spoil_longer_item(item, length);
         return;
     }
     switch (below(4)) {
@@ -243,11 +284,130 @@ static unsigned poll_frame(const uint8_t *r)
     return code(PIL_KIND_PPE) + below(16);
 }
 
+/* Extended devices. */
+
+static int is_extended(const uint8_t *r)
+{
+    return (r[PIL_RECORD_MORE] & PIL_MORE_EXTENDED) != 0;
+}
+
+/* A primary has been received, and the second address may come. */
+static int awaits_second(const uint8_t *r)
+{
+    return ((r[PIL_RECORD_FIXED_SECOND] | r[PIL_RECORD_SECOND]) & PIL_PRIMARY_RECEIVED) != 0;
+}
+
+/* An extended device's record, if possible of one that has received a primary; NULL if there is none. */
+static const uint8_t *chance_extended_record(const uint8_t *area)
+{
+    unsigned n = area[PIL_HEADER_DEVICES], start = below(n);
+    const uint8_t *found = NULL;
+
+    for (unsigned i = 0; i < n; i++) {
+        const uint8_t *r = area + PIL_RECORD_AT((start + i) % n);
+
+        if (is_extended(r) && (!found || (awaits_second(r) && !awaits_second(found))))
+            found = r;
+    }
+    return found;
+}
+
+/* A LAD or TAD, mostly the device's own. */
+static unsigned primary_frame(const uint8_t *r)
+{
+    unsigned kind = one_in(2) ? PIL_KIND_LAD : PIL_KIND_TAD;
+    int own = r[PIL_RECORD_ADDRESS] < PIL_NO_ADDRESS && !one_in(5);
+
+    return code(kind) + (own ? r[PIL_RECORD_ADDRESS] : chance_address());
+}
+
+/* A SAD, mostly the device's own; for a simple one that of its only address. */
+static unsigned second_frame(const uint8_t *r)
+{
+    unsigned second = is_extended(r) ? r[PIL_RECORD_SECOND] & PIL_SECOND_ADDRESS : r[PIL_RECORD_ADDRESS];
+
+    return code(PIL_KIND_SAD) + (second < PIL_NO_ADDRESS && !one_in(3) ? second : chance_address());
+}
+
+/* A frame of the automatic addresses: for a device that waits for one of these mostly that. */
+static unsigned assigning_frame(const uint8_t *r)
+{
+    static const uint8_t awaited[] = {PIL_KIND_AES, PIL_KIND_AAU, PIL_KIND_AEP};
+    static const uint8_t all[] = {PIL_KIND_AES, PIL_KIND_IES, PIL_KIND_AEP, PIL_KIND_IEP, PIL_KIND_AAD, PIL_KIND_IAA,
+                                  PIL_KIND_AAU};
+    unsigned kind = one_in(2) ? awaited[r[PIL_RECORD_CONFIGURED] % sizeof awaited] : all[below(sizeof all)];
+
+    if (kind == PIL_KIND_AES || kind == PIL_KIND_AEP || kind == PIL_KIND_AAD)
+        return code(kind) + chance_address();
+    return code(kind);
+}
+
+/* A frame that may come between a primary and its second address: each command, and frames that are none. */
+static unsigned frame_between(const uint8_t *r)
+{
+    static const uint16_t no_commands[] = {0x402, 0x410, 0x47f, 0x491, 0x49f, 0x4ff};
+    unsigned kind = PIL_KIND_NUL + below(PIL_KIND_DDT - PIL_KIND_NUL + 5);
+
+    switch (kind) {
+    case PIL_KIND_LAD:
+    case PIL_KIND_TAD: return primary_frame(r);
+    case PIL_KIND_SAD: return second_frame(r);
+    case PIL_KIND_PPE: return code(kind) + below(16);
+    case PIL_KIND_DDL:
+    case PIL_KIND_DDT: return code(kind) + below(32);
+    case PIL_KIND_DDT + 1: return no_commands[below(sizeof no_commands / sizeof *no_commands)];
+    case PIL_KIND_DDT + 2: return code(PIL_KIND_RFC) + below(256);
+    case PIL_KIND_DDT + 3: return code(PIL_KIND_IDY) + below(0x200);
+    case PIL_KIND_DDT + 4: return below(0x400);
+    default: return code(kind);
+    }
+}
+
+/* What suits an extended device: the second half of an address, or a command before it; else the first half of one, or
+   an assignment. */
+static unsigned extended_frame(const uint8_t *r)
+{
+    if (awaits_second(r) && !one_in(4))
+        return one_in(2) ? second_frame(r) : frame_between(r);
+    switch (below(8)) {
+    case 0:
+    case 1:
+    case 2: return primary_frame(r);
+    case 3: return second_frame(r);
+    case 4:
+    case 5:
+    case 6: return assigning_frame(r);
+    default: return frame_between(r);
+    }
+}
+
+/* What a step of a script sends. */
+enum step { PRIMARY, SECOND, BETWEEN, ASSIGNING, AWAITED };
+
+unsigned chance_script_frame(const uint8_t *r, unsigned script, unsigned step)
+{
+    static const uint8_t scripts[SCRIPTS][STEPS] = {
+        {PRIMARY, SECOND, AWAITED, AWAITED}, {PRIMARY, BETWEEN, SECOND, AWAITED}, {SECOND, PRIMARY, SECOND, SECOND},
+        {BETWEEN, PRIMARY, PRIMARY, SECOND}, {ASSIGNING, ASSIGNING, BETWEEN, SECOND},
+        {PRIMARY, ASSIGNING, SECOND, AWAITED}, {AWAITED, AWAITED, AWAITED, SECOND}, {BETWEEN, SECOND, ASSIGNING, SECOND}
+    };
+
+    switch (scripts[script][step]) {
+    case PRIMARY: return primary_frame(r);
+    case SECOND: return second_frame(r);
+    case BETWEEN: return frame_between(r);
+    case ASSIGNING: return assigning_frame(r);
+    default: return r[PIL_RECORD_TALKER] == PIL_TALKER_IDLE ? extended_frame(r) : awaited_frame(r);
+    }
+}
+
 unsigned chance_frame(const uint8_t *area, unsigned taken)
 {
-    const uint8_t *r = chance_talker_record(area);
+    const uint8_t *r = chance_talker_record(area), *extended = chance_extended_record(area);
     unsigned choice = below(100);
 
+    if (extended && one_in(6))
+        return extended_frame(extended);
     if (r[PIL_RECORD_TALKER] != PIL_TALKER_IDLE && below(5) < 3)
         return awaited_frame(r);
     if (choice < 30 && taken < code(PIL_KIND_NUL))
@@ -328,12 +488,26 @@ void chance_poll(uint8_t *r)
     r[PIL_RECORD_POLL_STATUS] = (uint8_t)below(2);
 }
 
-static void chance_sound_record(uint8_t *r)
+void chance_assigned(uint8_t *r)
 {
-    uint8_t item[PIL_POLL_ITEM_LENGTH];
+    unsigned fixed = r[PIL_RECORD_FIXED_SECOND] & PIL_SECOND_ADDRESS, state = below(PIL_HALF_ASSIGNED + 1);
+    unsigned second = state == PIL_UNCONFIGURED ? fixed : chance_address();
+
+    r[PIL_RECORD_ADDRESS] = state == PIL_UNCONFIGURED ? r[PIL_RECORD_FIXED] : (uint8_t)chance_address();
+    if (state == PIL_HALF_ASSIGNED && one_in(3))
+        second = PIL_NO_ADDRESS;
+    if (state == PIL_HALF_ASSIGNED && one_in(3))
+        r[PIL_RECORD_ADDRESS] = PIL_NO_ADDRESS;
+    r[PIL_RECORD_CONFIGURED] = (uint8_t)state;
+    r[PIL_RECORD_FIXED_SECOND] = (uint8_t)(fixed + PIL_PRIMARY_RECEIVED * below(2));
+    r[PIL_RECORD_SECOND] = (uint8_t)(second + PIL_PRIMARY_RECEIVED * below(2));
+}
+
+/* A sound record in any state, of the device that the item sets up. */
+static void chance_record_of(const uint8_t *item, uint8_t *r)
+{
     unsigned abilities;
 
-    chance_item(item, sizeof item);
     memset(r, 0, PIL_RECORD_LENGTH);
     r[PIL_RECORD_ABILITIES] = item[PIL_ITEM_ABILITIES];
     r[PIL_RECORD_MORE] = item[PIL_ITEM_MORE];
@@ -341,7 +515,10 @@ static void chance_sound_record(uint8_t *r)
     r[PIL_RECORD_ACCESSORY] = item[PIL_ITEM_ACCESSORY];
     r[PIL_RECORD_ID_LENGTH] = item[PIL_ITEM_ID_LENGTH];
     memcpy(r + PIL_RECORD_ID, item + PIL_ITEM_ID, PIL_MOST_ID);
+    r[PIL_RECORD_FIXED_SECOND] = r[PIL_RECORD_SECOND] = item[PIL_ITEM_SECOND];
     abilities = r[PIL_RECORD_ABILITIES];
+    if (is_extended(r))
+        chance_assigned(r);
     if (abilities & PIL_ABILITY_AUTO_ADDRESS && one_in(2)) {
         r[PIL_RECORD_CONFIGURED] = 1;
         r[PIL_RECORD_ADDRESS] = (uint8_t)chance_address();
@@ -360,6 +537,24 @@ static void chance_sound_record(uint8_t *r)
     if (r[PIL_RECORD_MORE] & PIL_MORE_POLL)
         chance_poll(r);
     chance_reply(r);
+}
+
+static void chance_sound_record(uint8_t *r)
+{
+    uint8_t item[PIL_EXTENDED_ITEM_LENGTH];
+
+    chance_item(item, sizeof item);
+    chance_record_of(item, r);
+}
+
+void chance_extended(uint8_t *r)
+{
+    uint8_t item[PIL_EXTENDED_ITEM_LENGTH];
+
+    chance_item(item, sizeof item);
+    item[PIL_ITEM_MORE] |= PIL_MORE_EXTENDED;
+    chance_extended_item(item, sizeof item);
+    chance_record_of(item, r);
 }
 
 void chance_sound_area(uint8_t *area, unsigned n)

@@ -27,10 +27,18 @@ void chance_items(uint8_t *items, unsigned n, size_t length);
 void spoil_item(uint8_t *item, size_t length);
 /* Gives the record of a device that can be polled any configuration and poll status. */
 void chance_poll(uint8_t *record);
+/* Gives the record of an extended device any assignment, addresses and primaries received. */
+void chance_assigned(uint8_t *record);
+/* Makes the record a sound one of an extended device, in any state. */
+void chance_extended(uint8_t *record);
 /* Fills the area of n devices with sound records and links in any states. */
 void chance_sound_area(uint8_t *area, unsigned n);
 /* The frame in two bytes of a record or a link. */
 unsigned frame_at(const uint8_t *bytes);
+/* A frame for a device that stands so, mostly an extended one, by a script and the step in it: both halves of
+   addresses, commands between these, assignments, and talks. */
+enum { SCRIPTS = 8, STEPS = 4 };
+unsigned chance_script_frame(const uint8_t *record, unsigned script, unsigned step);
 /* A frame for link 0: often the frame taken last, come round, and otherwise what suits the devices' states. */
 unsigned chance_frame(const uint8_t *area, unsigned taken);
 

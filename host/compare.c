@@ -2,6 +2,7 @@
    Use: compare [seed [calls]]. Exit 0: all equal; 1: a difference; 2: a full run reached too little; 3: wrong use. */
 #include "both.h"
 #include "chance.h"
+#include "extended.h"
 #include "order.h"
 #include "polls.h"
 #include "spoil.h"
@@ -25,15 +26,18 @@ enum {
     ROOM = GUARD + PIL_AREA_LENGTH(PIL_MOST_DEVICES + 1) + GUARD, /* longer than the longest area */
     SAVED_ROOM = GUARD + PIL_SAVE_LENGTH(PIL_MOST_DEVICES + 1) + GUARD, /* longer than the longest save */
     INPUT_ROOM = SAVE_ROOM,                                 /* items, bytes to load or a save to open */
-    ITEMS_ROOM = (PIL_POLL_ITEM_LENGTH + 1) * (PIL_MOST_DEVICES + 2), /* longest items tried */
+    LONGER_ITEM = PIL_EXTENDED_ITEM_LENGTH + 1,             /* than any item */
+    ITEMS_ROOM = LONGER_ITEM * (PIL_MOST_DEVICES + 2),      /* longest items tried */
     MOST_LOAD = 40,                                         /* longest load tried */
     DEFAULT_SEED = 20240,
     DEFAULT_CALLS = 1150000,
     FULL_RUN = 1000000, /* calls from which on the counts below are demanded */
     LEAST = 100, /* how often each refusal must be given, and bytes come back, messages, hops owed, loads, ends of data,
-                    events, set-ups, saves, openings, poll statuses and counts of polls be met in each way */
-    LEAST_MOVES = 10, /* how often each message must come to a device in each state of remote and local and of polls,
-                         each IDY meet each answer, each event come to a sender, and each number of ones be counted */
+                    events, set-ups, saves, openings, poll statuses, counts of polls and variants of devices be met in
+                    each way */
+    LEAST_MOVES = 10, /* how often each message must come to a device in each state of remote and local, of polls and of
+                         extended addresses, each IDY meet each answer, each event come to a sender, and each number of
+                         ones be counted */
     LONG = 8,    /* a loop of so many devices or more is a long one */
     MOST_OWED = 2 * PIL_MOST_DEVICES * (PIL_MOST_DEVICES + 1), /* hops */
     FORMER_MOST = 15, /* devices of the longest loop before 02, j */
@@ -96,10 +100,24 @@ static const uint8_t event_of[ACTINGS + 1] = {PIL_EVENT_CLEAR, PIL_EVENT_CLEAR, 
 enum event_stop { CLEAR_LEFT, TRIGGER_LEFT, CLEAR_SPENT, TRIGGER_SPENT, EVENT_STOPS };
 
 /* How a set-up ends: with items of 12 bytes accepted or refused with 2; with items of 13 bytes accepted or refused with
-   2, for a last byte alone or for others; with 1, for items of lengths mixed, of 14 bytes, or of another length. */
+   2, for a last byte alone or for others; with items of 14 bytes the same, and for their last two bytes; with 1, for
+   items of lengths mixed, of 15 bytes, or of another length. */
 enum setting {
-    SHORT_ITEMS, SHORT_UNSOUND, LONG_ITEMS, LONG_LAST, LONG_UNSOUND, MIXED_ITEMS, LONGER_ITEMS, OTHER_ITEMS, SETTINGS
+    SHORT_ITEMS, SHORT_UNSOUND, LONG_ITEMS, LONG_LAST, LONG_UNSOUND, EXTENDED_ITEMS, EXTENDED_LAST, EXTENDED_LAST_TWO,
+    EXTENDED_UNSOUND, MIXED_ITEMS, LONGER_ITEMS, OTHER_ITEMS, SETTINGS
 };
+
+/* A loop that was set up or made up, by its devices. */
+enum mix { ALL_SIMPLE, ALL_EXTENDED, BOTH_VARIANTS, MIXES };
+
+/* What an extended device has heard of an address, hop by hop: nothing, its own LAD or TAD, or a command behind it. */
+enum heard { HEARD_NONE, HEARD_LAD, HEARD_TAD, BROKEN_LAD, BROKEN_TAD, HEARDS };
+
+/* What a simple device must let go by: SAD, AES, and AEP. */
+enum passing { PASSED_SAD, PASSED_AES, PASSED_AEP, PASSINGS };
+
+/* The frames that assign addresses, or might be taken for such: GOT_AES to GOT_IAA, and AAU. */
+enum { ASSIGNERS = GOT_IAA - GOT_AES + 2 };
 
 /* A poll status set: no or yes where it was the same, or was the other; and yes by a number whose low byte is zero. */
 enum stating { NO_AS_BEFORE, YES_AS_BEFORE, YES_TO_NO, NO_TO_YES, YES_BY_HIGH, STATINGS };
@@ -174,12 +192,20 @@ static uint64_t settings[SETTINGS + 1], poll_statuses[REFUSALS], statings[STATIN
 static uint64_t countings[COUNTINGS], ones[DATA_BITS + 1], lowests[PIL_NO_BIT + 1];
 static uint64_t tellings[TELLERS + 1][POLLEDS], ppes_obeyed[2][PPES]; /* by devices not told before, told otherwise */
 static uint64_t idys[2][POLLEDS], answers_due[2][2][PPES]; /* not asking, asking; bit zero, one, status no, yes */
+static uint64_t mixes[MIXES], callings[CALLED][PRIMARIES], assignings[ASSIGNERS][ASSIGNEDS], passings[PASSINGS];
+static uint64_t assigneds[2][ASSIGNEDS]; /* after a hop, of extended devices without and with the poll */
+/* At the own SAD, by the primaries whose ability is there, without and with ability 64. */
+static uint64_t own_talkers[PRIMARIES][2][TALKERS], own_listeners[PRIMARIES][2][2];
+static uint64_t unable_seconds[2], other_seconds[2][TALKERS], primary_moves[STANDINGS], seconds[HEARDS][2];
 
 /* The history under way: its number, its number of devices, the frame taken last, and whether one frame, many or all
    that the links can hold are under way. */
 static uint64_t history_now;
 static unsigned n, taken;
 static enum { PACED, CROWDED, FILLING } pace;
+
+/* By each device of this history since its hops were followed. */
+static enum heard heard[PIL_MOST_DEVICES];
 
 /* Saves of this history and of others, to be opened later. */
 static struct kept {
@@ -435,6 +461,72 @@ static void count_poll(const uint8_t *r, unsigned frame)
         answers_due[(frame & answer_bit(r)) != 0][stood == TOLD_YES][number]++;
 }
 
+static enum heard heard_after(enum heard was, enum called by)
+{
+    if (by == OWN_LAD)
+        return HEARD_LAD;
+    if (by == OWN_TAD)
+        return HEARD_TAD;
+    if (by == OWN_SAD || by >= COMMANDS_CALLED)
+        return was;
+    if (by == OTHER_SAD)
+        return HEARD_NONE;
+    return was == HEARD_LAD ? BROKEN_LAD : was == HEARD_TAD ? BROKEN_TAD : was;
+}
+
+/* There were hops, or changes of the area, that are not followed one by one. */
+static void forget_heard(void)
+{
+    memset(heard, 0, sizeof heard);
+}
+
+/* A SAD came to an extended device: what it found there. */
+static void count_second(const uint8_t *r, int own)
+{
+    int unaddress = (r[PIL_RECORD_ABILITIES] & PIL_ABILITY_UNADDRESS) != 0, talker = r[PIL_RECORD_TALKER];
+    unsigned unable = primaries(r) & ~(unsigned)able_primaries(r);
+
+    if (!own) {
+        other_seconds[(primaries(r) & TALK_PRIMARY) != 0][talker]++;
+        return;
+    }
+    own_talkers[able_primaries(r)][unaddress][talker]++;
+    own_listeners[able_primaries(r)][unaddress][r[PIL_RECORD_LISTENER]]++;
+    unable_seconds[0] += (unable & LISTEN_PRIMARY) != 0;
+    unable_seconds[1] += (unable & TALK_PRIMARY) != 0;
+}
+
+/* An extended device hopped: what the frame was to it, and how it stood. */
+static void count_extended(unsigned device, const uint8_t *r, unsigned frame)
+{
+    enum called by = called(r, frame);
+    const uint8_t *now = area_of(PIL) + PIL_RECORD_AT(device);
+
+    callings[by][primaries(r)]++;
+    assigneds[r[PIL_RECORD_MORE] & PIL_MORE_POLL][assigned(now)]++;
+    if (by >= GOT_AES && by <= GOT_IAA)
+        assignings[by - GOT_AES][assigned(r)]++;
+    if (by == GOT_AAU)
+        assignings[ASSIGNERS - 1][assigned(r)]++;
+    if (by == OWN_LAD)
+        primary_moves[standing(r)]++;
+    if (by == OWN_SAD || by == OTHER_SAD) {
+        count_second(r, by == OWN_SAD);
+        seconds[heard[device]][by == OWN_SAD]++;
+    }
+    heard[device] = heard_after(heard[device], by);
+}
+
+/* A simple device hopped. AES counts where AAD would be obeyed, SAD where a talker could be made idle. */
+static void count_simple(const uint8_t *r, unsigned frame)
+{
+    int awaits = r[PIL_RECORD_ABILITIES] & PIL_ABILITY_AUTO_ADDRESS && r[PIL_RECORD_CONFIGURED] == PIL_UNCONFIGURED;
+
+    passings[PASSED_SAD] += frame >= 0x460 && frame <= 0x47e && r[PIL_RECORD_TALKER] != PIL_TALKER_IDLE;
+    passings[PASSED_AES] += frame >= 0x5c0 && frame <= 0x5de && awaits;
+    passings[PASSED_AEP] += frame >= 0x5a0 && frame <= 0x5be && awaits;
+}
+
 /* The device hopped: how it stands, how its own byte came back if it took one, and how its last went out. */
 static void count_hop(unsigned device, const struct answer *hopped)
 {
@@ -447,6 +539,10 @@ static void count_hop(unsigned device, const struct answer *hopped)
     moves[mover(r, frame)][standing(r)]++;
     actings[acting(r, frame)]++;
     count_poll(r, frame);
+    if (is_extended(r))
+        count_extended(device, r, frame);
+    else
+        count_simple(r, frame);
     if (r[PIL_RECORD_TALKER] >= PIL_TALKER_DATA)
         sender_events[hopped->event]++;
     if (r[PIL_RECORD_TALKER] >= PIL_TALKER_DATA && frame < PIL_C3)
@@ -546,16 +642,26 @@ static unsigned devices_of(size_t area_len)
     return 0;
 }
 
-/* Whether items of 13 bytes would be allowed with other last bytes. */
-static int others_allowed(const struct call *c)
+/* Whether items of this length would be allowed with zeros from a byte on. */
+static int others_allowed(const struct call *c, size_t length, size_t from)
 {
     static uint8_t scratch[PIL_AREA_LENGTH(PIL_MOST_DEVICES)];
     uint8_t items[ITEMS_ROOM];
 
     memcpy(items, input, c->input_len);
-    for (unsigned i = 0; PIL_POLL_ITEM_AT(i) < c->input_len; i++)
-        items[PIL_POLL_ITEM_AT(i) + PIL_ITEM_MORE] = 0;
+    for (size_t at = 0; at < c->input_len; at += length)
+        memset(items + at + from, 0, length - from);
     return model_set_up(scratch, c->area_len, items, c->input_len) == PIL_ACCEPTED;
+}
+
+/* Items of 14 bytes, which were accepted or refused with 2. */
+static enum setting extended_setting(const struct call *c, const struct answer *a)
+{
+    if (a->refusal == PIL_ACCEPTED)
+        return EXTENDED_ITEMS;
+    if (others_allowed(c, PIL_EXTENDED_ITEM_LENGTH, PIL_ITEM_SECOND))
+        return EXTENDED_LAST;
+    return others_allowed(c, PIL_EXTENDED_ITEM_LENGTH, PIL_ITEM_MORE) ? EXTENDED_LAST_TWO : EXTENDED_UNSOUND;
 }
 
 /* SETTINGS where the area has the length of no loop. */
@@ -565,13 +671,18 @@ static enum setting setting(const struct call *c, const struct answer *a)
 
     if (devices == 0)
         return SETTINGS;
-    if (a->refusal == PIL_SHAPE && c->input_len == (PIL_POLL_ITEM_LENGTH + 1) * devices)
+    if (a->refusal == PIL_SHAPE && c->input_len == LONGER_ITEM * devices)
         return LONGER_ITEMS;
     if (a->refusal == PIL_SHAPE)
-        return c->input_len / devices == PIL_ITEM_LENGTH ? MIXED_ITEMS : OTHER_ITEMS;
+        return c->input_len > PIL_ITEMS_LENGTH(devices) && c->input_len < PIL_EXTENDED_ITEMS_LENGTH(devices)
+            ? MIXED_ITEMS : OTHER_ITEMS;
     if (c->input_len == PIL_ITEMS_LENGTH(devices))
         return a->refusal == PIL_ACCEPTED ? SHORT_ITEMS : SHORT_UNSOUND;
-    return a->refusal == PIL_ACCEPTED ? LONG_ITEMS : others_allowed(c) ? LONG_LAST : LONG_UNSOUND;
+    if (c->input_len == PIL_EXTENDED_ITEMS_LENGTH(devices))
+        return extended_setting(c, a);
+    if (a->refusal == PIL_ACCEPTED)
+        return LONG_ITEMS;
+    return others_allowed(c, PIL_POLL_ITEM_LENGTH, PIL_ITEM_MORE) ? LONG_LAST : LONG_UNSOUND;
 }
 
 static void count_drain(const struct call *c, const struct answer *a)
@@ -595,6 +706,8 @@ static void count_answer(const struct call *c, const struct answer *a)
         count_count(c, a);
     if (c->which == SET_UP)
         settings[setting(c, a)]++;
+    if (c->which == SET_UP || c->which == OPEN || c->which == DRAIN)
+        forget_heard();
     if (c->which == HOP && a->refusal == PIL_ACCEPTED)
         count_hop((unsigned)c->number, a);
     if (is_load(c))
@@ -657,19 +770,21 @@ static int moved_by_table(const struct call *c, const struct answer *a)
     return standing(area_of(PIL) + PIL_RECORD_AT(c->number)) == standing_after[by][standing(was)];
 }
 
-/* An event is reported just at the hop of a command that clears or triggers, and alters no byte of the record (02, d):
-   no model is needed to see this. */
+/* An event is reported just at the hop of a command that clears or triggers, and alters no byte of the record (02, d)
+   but for the primaries received, which any command ends (02, i): no model is needed to see this. */
 static int event_by_table(const struct call *c, const struct answer *a)
 {
-    const uint8_t *was;
+    uint8_t was[PIL_RECORD_LENGTH];
     enum acting by;
 
     if (c->which != HOP || a->refusal != PIL_ACCEPTED)
         return a->event == PIL_EVENT_NONE;
-    was = before + GUARD + PIL_RECORD_AT(c->number);
+    memcpy(was, before + GUARD + PIL_RECORD_AT(c->number), sizeof was);
     by = acting(was, frame_taken(c->number));
+    was[PIL_RECORD_FIXED_SECOND] %= PIL_PRIMARY_RECEIVED;
+    was[PIL_RECORD_SECOND] %= PIL_PRIMARY_RECEIVED;
     return a->event == event_of[by]
-        && (by == ACTINGS || memcmp(area_of(PIL) + PIL_RECORD_AT(c->number), was, PIL_RECORD_LENGTH) == 0);
+        && (by == ACTINGS || memcmp(area_of(PIL) + PIL_RECORD_AT(c->number), was, sizeof was) == 0);
 }
 
 /* A hop tells a device how to answer polls and answers an IDY as the tables say, its call alone sets a poll status, and
@@ -690,29 +805,58 @@ static int polled_by_table(const struct call *c, const struct answer *a)
         && now[PIL_RECORD_POLL_STATUS] == status && (frame < FIRST_IDY || a->frame == idy_after(was, frame));
 }
 
-/* A poll status refused with none of 1, 2, 3 gives 7 just where byte 7 is zero, whatever other abilities are (02, f):
+/* A poll status refused with none of 1, 2, 3 gives 7 just where byte 7 is even, whatever other abilities are (02, f):
    no model is needed to see this. */
 static int refused_by_ability(const struct call *c, const struct answer *a)
 {
     if (c->which != POLL_STATUS || (a->refusal != PIL_ACCEPTED && a->refusal != PIL_NO_ABILITY))
         return 1;
-    return (a->refusal == PIL_NO_ABILITY) == (before[GUARD + PIL_RECORD_AT(c->number) + PIL_RECORD_MORE] == 0);
+    return (a->refusal == PIL_NO_ABILITY) == (before[GUARD + PIL_RECORD_AT(c->number) + PIL_RECORD_MORE] % 2 == 0);
 }
 
-/* An accepted set-up gives each device the further abilities of its item, none where that has 12 bytes, and tells it
-   nothing (02, f): no model is needed to see this. */
+/* The byte of a device's item, 0 where the items are too short for it. */
+static unsigned item_byte(size_t length, unsigned device, size_t place)
+{
+    return place < length ? input[device * length + place] : 0;
+}
+
+/* An accepted set-up gives each device the further abilities and both second addresses of its item, and tells it
+   nothing of polls or primaries (02, f and i): no model is needed to see this. */
 static int able_by_items(const struct call *c, const struct answer *a)
 {
     unsigned devices = area_of(PIL)[PIL_HEADER_DEVICES];
-    int longer = c->input_len == PIL_POLL_ITEMS_LENGTH(devices);
+    int applies = c->which == SET_UP && a->refusal == PIL_ACCEPTED;
+    size_t length = applies ? c->input_len / devices : 0;
 
-    for (unsigned i = 0; c->which == SET_UP && a->refusal == PIL_ACCEPTED && i < devices; i++) {
+    for (unsigned i = 0; applies && i < devices; i++) {
         const uint8_t *r = area_of(PIL) + PIL_RECORD_AT(i);
+        unsigned second = item_byte(length, i, PIL_ITEM_SECOND);
 
-        if (r[PIL_RECORD_MORE] != (longer ? input[PIL_POLL_ITEM_AT(i) + PIL_ITEM_MORE] : 0)
-            || r[PIL_RECORD_POLL] != 0 || r[PIL_RECORD_POLL_STATUS] != 0)
+        if (r[PIL_RECORD_MORE] != item_byte(length, i, PIL_ITEM_MORE) || r[PIL_RECORD_POLL] != 0
+            || r[PIL_RECORD_POLL_STATUS] != 0 || r[PIL_RECORD_CONFIGURED] != 0 || r[PIL_RECORD_FIXED_SECOND] != second
+            || r[PIL_RECORD_SECOND] != second)
             return 0;
     }
+    return 1;
+}
+
+/* A hop assigns and addresses a device as the tables say, and a local call does neither (02, i): no model is needed to
+   see this. */
+static int addressed_by_table(const struct call *c, const struct answer *a)
+{
+    static const uint8_t places[] = {PIL_RECORD_FIXED, PIL_RECORD_ADDRESS, PIL_RECORD_CONFIGURED, PIL_RECORD_LISTENER,
+                                     PIL_RECORD_TALKER, PIL_RECORD_FIXED_SECOND, PIL_RECORD_SECOND};
+    const uint8_t *was, *now;
+
+    if (a->refusal != PIL_ACCEPTED || !is_of_device(c))
+        return 1;
+    was = before + GUARD + PIL_RECORD_AT(c->number);
+    now = area_of(PIL) + PIL_RECORD_AT(c->number);
+    if (c->which == HOP)
+        return addressed_right(was, now, frame_taken(c->number), (unsigned)a->frame);
+    for (unsigned i = 0; i < sizeof places; i++)
+        if (now[places[i]] != was[places[i]])
+            return 0;
     return 1;
 }
 
@@ -831,6 +975,8 @@ static struct answer compare_call(const struct call *c)
         differs("not moved between remote and local, or no event told, as the tables say", c, answers);
     if (!polled_by_table(c, &answers[PIL]) || !refused_by_ability(c, &answers[PIL]) || !able_by_items(c, &answers[PIL]))
         differs("not polled as the tables say, or not able as the items say", c, answers);
+    if (!addressed_by_table(c, &answers[PIL]))
+        differs("not assigned or addressed as the tables say", c, answers);
     if (c->which < DECODE)
         compare_owed(c, answers);
     under_way = NULL;
@@ -902,7 +1048,8 @@ static uint64_t hops_owed(void)
 
 static uint64_t some_budget(void)
 {
-    static const uint64_t budgets[] = {0, 1, 1, 2, 3, 5, 10, 60, MOST_OWED - 1, MOST_OWED, UINT32_MAX, UINT64_MAX};
+    static const uint64_t budgets[] = {0, 1, 1, 1, 2, 2, 3, 4, 5, 10, 60, MOST_OWED - 1, MOST_OWED, UINT32_MAX,
+                                       UINT64_MAX};
 
     return one_in(6) ? hops_owed() : budgets[below(sizeof budgets / sizeof *budgets)];
 }
@@ -1056,7 +1203,7 @@ static size_t wrong_items_length(size_t right)
 {
     if (one_in(2))
         return wrong_length(right, PIL_ITEM_LENGTH, ITEMS_ROOM);
-    return one_in(3) ? (PIL_POLL_ITEM_LENGTH + 1) * n : PIL_ITEMS_LENGTH(n) + below(n + 1);
+    return one_in(3) ? LONGER_ITEM * n : PIL_ITEMS_LENGTH(n) + below(2 * n + 1);
 }
 
 /* A wrong length of the area, or of the items; byte 0 is sometimes made to fit it. */
@@ -1155,7 +1302,18 @@ static unsigned some_pollable(void)
     unsigned start = below(n);
 
     for (unsigned i = 0; i < n; i++)
-        if (area_of(MODEL)[PIL_RECORD_AT((start + i) % n) + PIL_RECORD_MORE])
+        if (area_of(MODEL)[PIL_RECORD_AT((start + i) % n) + PIL_RECORD_MORE] & PIL_MORE_POLL)
+            return (start + i) % n;
+    return start;
+}
+
+/* A device, if possible an extended one. */
+static unsigned some_extended(void)
+{
+    unsigned start = below(n);
+
+    for (unsigned i = 0; i < n; i++)
+        if (is_extended(area_of(MODEL) + PIL_RECORD_AT((start + i) % n)))
             return (start + i) % n;
     return start;
 }
@@ -1168,16 +1326,54 @@ static void damage_poll(void)
 
     switch (below(5)) {
     case 0: set_both(record + PIL_RECORD_POLL, 0); set_both(record + PIL_RECORD_POLL_STATUS, 0); /* fall through */
-    case 1: set_both(record + PIL_RECORD_MORE, one_in(4) ? below(256) : 1 + below(2)); break;
+    case 1: set_both(record + PIL_RECORD_MORE, one_in(4) ? below(256) : one_in(2) ? 4 : below(4)); break;
     case 2: set_both(record + PIL_RECORD_POLL_STATUS, one_in(4) ? below(256) : 1 + below(2)); break;
     default: set_both(record + PIL_RECORD_POLL, one_in(4) ? below(256) : limits[below(sizeof limits)]);
     }
 }
 
+/* A record's byte with bits turned over. */
+static void turn_both(size_t place, unsigned bits)
+{
+    set_both(place, area_of(MODEL)[place] ^ bits);
+}
+
+/* Configured at these addresses, the talk primary received or not. */
+static void damage_configured(size_t record, unsigned address, unsigned second)
+{
+    set_both(record + PIL_RECORD_CONFIGURED, PIL_CONFIGURED);
+    set_both(record + PIL_RECORD_ADDRESS, address);
+    set_both(record + PIL_RECORD_SECOND, second + PIL_PRIMARY_RECEIVED * below(2));
+}
+
+/* Addresses, assignment or what there is in only one of the variants: some of it is sound after all. */
+static void damage_extended(void)
+{
+    size_t record = PIL_RECORD_AT(one_in(3) ? below(n) : some_extended());
+
+    switch (below(11)) {
+    case 0: turn_both(record + PIL_RECORD_FIXED_SECOND, one_in(2) ? 1u << below(8) : 64); break;
+    case 1: turn_both(record + PIL_RECORD_SECOND, one_in(2) ? 1u << below(8) : 64); break;
+    case 2:
+    case 3: set_both(record + PIL_RECORD_CONFIGURED, one_in(4) ? below(5) : 2 + below(2)); break;
+    case 4: turn_both(record + PIL_RECORD_ABILITIES, PIL_ABILITY_AUTO_ADDRESS); break;
+    case 5: turn_both(record + PIL_RECORD_MORE, PIL_MORE_EXTENDED); break;
+    case 6: set_both(record + PIL_RECORD_ADDRESS, one_in(2) ? PIL_NO_ADDRESS : below(PIL_NO_ADDRESS + 2)); break;
+    case 7: damage_configured(record, PIL_NO_ADDRESS, below(PIL_NO_ADDRESS)); break;
+    case 8: damage_configured(record, below(PIL_NO_ADDRESS), PIL_NO_ADDRESS); break;
+    case 9:
+        set_both(record + PIL_RECORD_CONFIGURED, PIL_UNCONFIGURED);
+        turn_both(record + PIL_RECORD_SECOND, 1 + below(PIL_SECOND_ADDRESS));
+        break;
+    default: turn_both(record + (one_in(2) ? PIL_RECORD_SECOND : PIL_RECORD_FIXED_SECOND), PIL_PRIMARY_RECEIVED);
+    }
+}
+
 static void damage(void)
 {
-    static void (*const damages[])(void) = {damage_frame, damage_standing, damage_poll};
-    unsigned how = below(7);
+    static void (*const damages[])(void) = {damage_frame, damage_standing, damage_poll, damage_poll, damage_extended,
+                                            damage_extended};
+    unsigned how = below(10);
 
     if (how < sizeof damages / sizeof *damages) {
         damages[how]();
@@ -1198,6 +1394,7 @@ static void damaged_call(void)
     struct answer a;
 
     memcpy(good, rooms[MODEL], ROOM);
+    forget_heard();
     damage();
     a = compare_call(&c);
     if (a.refusal == PIL_SHAPE || a.refusal == PIL_UNSOUND || one_in(2))
@@ -1489,6 +1686,15 @@ static _Noreturn void wrong_material(const char *what)
     exit(3);
 }
 
+static enum mix mix(const uint8_t *area)
+{
+    unsigned extended = 0;
+
+    for (unsigned i = 0; i < n; i++)
+        extended += is_extended(area + PIL_RECORD_AT(i)) != 0;
+    return extended == 0 ? ALL_SIMPLE : extended == n ? ALL_EXTENDED : BOTH_VARIANTS;
+}
+
 /* Begins with a set-up over any contents, or with a sound area made up. */
 static void begin(void)
 {
@@ -1513,6 +1719,8 @@ static void begin(void)
     memcpy(rooms[MODEL], rooms[PIL], ROOM);
     if (compare_call(&c).refusal != (c.which == PUT ? PIL_BAD_FRAME : PIL_ACCEPTED))
         wrong_material(c.which == PUT ? "a sound area" : "allowed items");
+    mixes[mix(area_of(MODEL))]++;
+    forget_heard();
 }
 
 static void go_on(void)
@@ -1546,10 +1754,59 @@ static void give_polls(void)
     for (unsigned i = 0; i < n; i++) {
         size_t record = PIL_RECORD_AT(i);
 
-        if (!area_of(MODEL)[record + PIL_RECORD_MORE] || one_in(2))
+        if (!(area_of(MODEL)[record + PIL_RECORD_MORE] & PIL_MORE_POLL) || one_in(2))
             continue;
         chance_poll(area_of(MODEL) + record);
         memcpy(area_of(PIL) + record, area_of(MODEL) + record, PIL_RECORD_LENGTH);
+    }
+}
+
+/* And some extended ones any assignment, addresses and primaries received. */
+static void give_addresses(void)
+{
+    forget_heard();
+    for (unsigned i = 0; i < n; i++) {
+        size_t record = PIL_RECORD_AT(i);
+
+        if (!is_extended(area_of(MODEL) + record) || one_in(2))
+            continue;
+        chance_assigned(area_of(MODEL) + record);
+        memcpy(area_of(PIL) + record, area_of(MODEL) + record, PIL_RECORD_LENGTH);
+    }
+}
+
+/* The link becomes one that holds just this frame, or none. */
+static void lend_link(unsigned link, unsigned frames, unsigned frame)
+{
+    size_t at = PIL_LINK_AT(n, link);
+
+    for (size_t i = 0; i < PIL_LINK_LENGTH; i++)
+        set_both(at + i, 0);
+    set_both(at + PIL_LINK_COUNT, frames);
+    set_both(at + PIL_LINK_FRAMES, frame);
+    set_both(at + PIL_LINK_FRAMES + 1, frame >> 8);
+}
+
+/* A script for an extended device, that was there or is new, or sometimes for any: its frames are written into the link
+   before it one by one. */
+static void address_some(void)
+{
+    int any = one_in(5);
+    unsigned device = any ? below(n) : some_extended(), script = below(SCRIPTS);
+    uint8_t *record = area_of(MODEL) + PIL_RECORD_AT(device);
+
+    forget_heard();
+    if (!any && one_in(2)) {
+        chance_extended(record);
+        memcpy(area_of(PIL) + PIL_RECORD_AT(device), record, PIL_RECORD_LENGTH);
+    }
+    for (unsigned step = 0; step < STEPS && made < wanted; step++) {
+        struct call c = hop_call(device);
+
+        lend_link(device, 1, chance_script_frame(record, script, step));
+        lend_link(device + 1, 0, 0);
+        c.area_len = PIL_AREA_LENGTH(n);
+        compare_call(&c);
     }
 }
 
@@ -1561,7 +1818,9 @@ static void history(void)
             give_standings();
         if (one_in(12))
             give_polls();
-        switch (below(22)) {
+        if (one_in(12))
+            give_addresses();
+        switch (below(23)) {
         case 0: wild_number_call(); break;
         case 1: wrong_length_call(); break;
         case 2:
@@ -1570,6 +1829,7 @@ static void history(void)
         case 5: one_in(3) ? count_some() : there_and_back(code_call()); break;
         case 6:
         case 7: open_some(); break;
+        case 8: pace == FILLING ? go_on() : address_some(); break; /* links are left to fill */
         default: go_on();
         }
     }
@@ -1874,6 +2134,254 @@ static int compare_polls(void)
     return compare_all_poll_bytes() && all;
 }
 
+/* Extended addresses (02, i): each standing under each command and ready frame, each value of bytes 3, 7, 20 and 21
+   together, and all lengths and last bytes of items. */
+
+enum { FIXED_SECOND = 7, GIVEN = 9, GIVEN_SECOND = 3, READY_END = 0x600, NO_AUTO = 0xff - PIL_ABILITY_AUTO_ADDRESS };
+
+/* All that an extended device can have, without unaddress, without listening, without talking, and none. */
+static const uint8_t abilities_tried[] = {NO_AUTO, NO_AUTO - PIL_ABILITY_UNADDRESS,
+                                          NO_AUTO - PIL_ABILITY_UNADDRESS - PIL_ABILITY_LISTEN, PIL_ABILITY_LISTEN, 0};
+
+/* How an extended device stands. */
+struct stand {
+    uint8_t abilities, assigned, primaries, listener, talker;
+};
+
+static int is_sound(const struct stand *s)
+{
+    return (!s->listener || s->abilities & PIL_ABILITY_LISTEN) && (!s->talker || s->abilities & PIL_ABILITY_DATA);
+}
+
+/* A reply under way, of which there is more to send. */
+static void make_sender(uint8_t *r)
+{
+    r[PIL_RECORD_NRD] = 1;
+    r[PIL_RECORD_LAST] = 0x41;
+    r[PIL_RECORD_DATA_LENGTH] = 2;
+    memcpy(r + PIL_RECORD_DATA, "AB", 2);
+    r[PIL_RECORD_SENT] = r[PIL_RECORD_TALKER] == PIL_TALKER_DATA;
+    r[PIL_RECORD_REPLY_SENT] = r[PIL_RECORD_TALKER] > PIL_TALKER_DATA;
+}
+
+/* Its addresses: the fixed ones, those assigned, or half assigned, also at 31. */
+static void make_addresses(uint8_t *r, const struct stand *s)
+{
+    static const uint8_t states[ASSIGNEDS] = {PIL_UNCONFIGURED, PIL_CONFIGURED, PIL_HALF_ASSIGNED, PIL_HALF_ASSIGNED};
+    static const uint8_t seconds_now[ASSIGNEDS] = {FIXED_SECOND, GIVEN_SECOND, GIVEN_SECOND, PIL_NO_ADDRESS};
+
+    r[PIL_RECORD_CONFIGURED] = states[s->assigned];
+    r[PIL_RECORD_ADDRESS] = s->assigned == UNASSIGNED ? OWN_ADDRESS : GIVEN;
+    r[PIL_RECORD_FIXED_SECOND] = FIXED_SECOND | (s->primaries & LISTEN_PRIMARY ? PIL_PRIMARY_RECEIVED : 0);
+    r[PIL_RECORD_SECOND] = seconds_now[s->assigned];
+    r[PIL_RECORD_SECOND] |= s->primaries & TALK_PRIMARY ? PIL_PRIMARY_RECEIVED : 0;
+}
+
+/* Both areas become a loop of one such device, enabled, with the frame before it. */
+static void lend_extended(const struct stand *s, unsigned frame)
+{
+    uint8_t item[PIL_EXTENDED_ITEM_LENGTH] = {s->abilities, OWN_ADDRESS, 0x50, 2, 0x41, 0x42,
+                                              [PIL_ITEM_MORE] = PIL_MORE_POLL | PIL_MORE_EXTENDED, FIXED_SECOND};
+    uint8_t *r = area_of(PIL) + PIL_RECORD_AT(0);
+
+    n = 1;
+    if (model_set_up(area_of(PIL), PIL_AREA_LENGTH(n), item, sizeof item) != PIL_ACCEPTED
+        || model_put(area_of(PIL), PIL_AREA_LENGTH(n), frame) != PIL_ACCEPTED)
+        wrong_material("an extended device or a frame");
+    r[PIL_RECORD_LISTENER] = s->listener;
+    r[PIL_RECORD_TALKER] = s->talker;
+    r[PIL_RECORD_ENABLED] = 1;
+    if (s->talker >= PIL_TALKER_DATA)
+        make_sender(r);
+    make_addresses(r, s);
+    memcpy(rooms[MODEL], rooms[PIL], ROOM);
+}
+
+/* What all these hops came to: AES and AEP obeyed, primaries received, talkers and listeners made by a SAD, talkers
+   made idle by one, and devices that a LAD made remote. */
+static struct {
+    uint64_t hops, assigned, primary, received, talkers, listeners, idle, remote;
+} extended_sums;
+
+static void add_extended(const uint8_t *was, const uint8_t *now, unsigned frame)
+{
+    enum called by = called(was, frame);
+    int second = by == OWN_SAD || by == OTHER_SAD;
+
+    extended_sums.hops++;
+    extended_sums.assigned += now[PIL_RECORD_CONFIGURED] == PIL_HALF_ASSIGNED && was[PIL_RECORD_CONFIGURED] == 0;
+    extended_sums.primary += now[PIL_RECORD_CONFIGURED] == PIL_CONFIGURED && was[PIL_RECORD_CONFIGURED] != 1;
+    extended_sums.received += primaries(now) != NO_PRIMARY && primaries(now) != primaries(was);
+    extended_sums.talkers += second && now[PIL_RECORD_TALKER] == 1 && was[PIL_RECORD_TALKER] != 1;
+    extended_sums.listeners += second && now[PIL_RECORD_LISTENER] > was[PIL_RECORD_LISTENER];
+    extended_sums.idle += by == OTHER_SAD && now[PIL_RECORD_TALKER] == 0 && was[PIL_RECORD_TALKER] != 0;
+    extended_sums.remote += now[PIL_RECORD_REMOTE] == PIL_REMOTE;
+}
+
+/* Each command and ready frame at a device that stands so; the standings that are not sound are left out. */
+static void compare_stand(const struct stand *s)
+{
+    for (unsigned frame = COMMANDS; is_sound(s) && frame < READY_END; frame++) {
+        lend_extended(s, frame);
+        if (compare_hop().refusal != PIL_ACCEPTED)
+            wrong_material("the hop of an extended device");
+        add_extended(before + GUARD + PIL_RECORD_AT(0), area_of(PIL) + PIL_RECORD_AT(0), frame);
+    }
+}
+
+static void compare_stands(uint8_t abilities)
+{
+    for (unsigned how = 0; how < ASSIGNEDS * PRIMARIES * 2 * TALKERS; how++) {
+        struct stand s = {abilities, (uint8_t)(how % ASSIGNEDS), (uint8_t)(how / ASSIGNEDS % PRIMARIES),
+                          (uint8_t)(how / ASSIGNEDS / PRIMARIES % 2), (uint8_t)(how / ASSIGNEDS / PRIMARIES / 2)};
+
+        compare_stand(&s);
+    }
+}
+
+/* With the five abilities there are 12, 12, 6, 2 and 1 pairs of listener and talker, 26 of them with listening, 30 with
+   talking. An own SAD is there in three of four assignments, with a primary in two of four. */
+static int compare_extended(void)
+{
+    const uint64_t pairs = 12 + 12 + 6 + 2 + 1, stands = pairs * ASSIGNEDS * PRIMARIES;
+    const uint64_t obeyed = pairs * PRIMARIES * 31;
+    const uint64_t talkers_due = 3 * 2 * (10 + 10 + 5), listeners_due = 3 * (6 + 2 * 6 + 2);
+    const uint64_t others_due = (3 * 30 + 31) * 2 * (10 + 10 + 5), received_due = (26 + 30) * ASSIGNEDS * 3;
+    int all;
+
+    for (unsigned i = 0; i < sizeof abilities_tried; i++)
+        compare_stands(abilities_tried[i]);
+    all = extended_sums.hops == stands * (READY_END - COMMANDS) && extended_sums.assigned == obeyed
+        && extended_sums.primary == obeyed && extended_sums.received == received_due
+        && extended_sums.talkers == talkers_due && extended_sums.listeners == listeners_due
+        && extended_sums.idle == others_due && extended_sums.remote == 26 * ASSIGNEDS * PRIMARIES;
+    printf("extended addresses: %" PRIu64 " standings under %d commands and ready frames each: %" PRIu64 " AES and %"
+           PRIu64 " AEP obeyed, %" PRIu64 " primaries received, %" PRIu64 " talkers and %" PRIu64 " listeners made by "
+           "SAD, %" PRIu64 " talkers idle by another's, %" PRIu64 " remote by LAD%s\n", stands, READY_END - COMMANDS,
+           extended_sums.assigned, extended_sums.primary, extended_sums.received, extended_sums.talkers,
+           extended_sums.listeners, extended_sums.idle, extended_sums.remote, all ? "" : "  NOT ALL");
+    return all;
+}
+
+/* Asks both sides for soundness of one device's area, whole calls only where they differ: there are millions. */
+static int compare_soundness(const uint8_t *area)
+{
+    uint8_t refusal = pil_owed(area, PIL_AREA_LENGTH(1)).refusal;
+
+    if (refusal != model_owed(area, PIL_AREA_LENGTH(1)).refusal || (refusal && refusal != PIL_UNSOUND)) {
+        struct call c = {.which = OWED, .area_len = PIL_AREA_LENGTH(1)};
+
+        memcpy(area_of(PIL), area, PIL_AREA_LENGTH(1));
+        memcpy(rooms[MODEL], rooms[PIL], ROOM);
+        compare_call(&c);
+        wrong_material("an area otherwise than with 2");
+    }
+    return refusal == PIL_ACCEPTED;
+}
+
+/* All pairs of bytes 20 and 21; gives how many of them are sound. */
+static uint64_t compare_pairs(uint8_t *area)
+{
+    uint8_t *r = area + PIL_RECORD_AT(0);
+    uint64_t sound = 0;
+
+    for (unsigned pair = 0; pair < BYTES * BYTES; pair++) {
+        r[PIL_RECORD_FIXED_SECOND] = (uint8_t)(pair / BYTES);
+        r[PIL_RECORD_SECOND] = (uint8_t)(pair % BYTES);
+        sound += (unsigned)compare_soundness(area);
+    }
+    return sound;
+}
+
+/* How many pairs are sound, by bytes 7 and 3: at the fixed address, at another, at 31, and, with ability 32, at the
+   fixed one. */
+enum { MORES_TRIED = 5, STATES_TRIED = 4, PLACES_TRIED = 4 };
+
+static const uint16_t pairs_sound[PLACES_TRIED][MORES_TRIED][STATES_TRIED] = {
+    {{1, 0, 0, 0}, {1, 0, 0, 0}, {128, 3968, 4096, 0}, {128, 3968, 4096, 0}, {0, 0, 0, 0}},
+    {{0, 0, 0, 0}, {0, 0, 0, 0}, {0, 3968, 4096, 0}, {0, 3968, 4096, 0}, {0, 0, 0, 0}},
+    {{0, 0, 0, 0}, {0, 0, 0, 0}, {0, 0, 4096, 0}, {0, 0, 4096, 0}, {0, 0, 0, 0}},
+    {{1, 1, 0, 0}, {1, 1, 0, 0}, {0, 0, 0, 0}, {0, 0, 0, 0}, {0, 0, 0, 0}},
+};
+
+static const struct {
+    uint8_t abilities, address;
+} places_tried[PLACES_TRIED] = {{NO_AUTO, OWN_ADDRESS}, {NO_AUTO, GIVEN}, {NO_AUTO, PIL_NO_ADDRESS},
+                                {0xff, OWN_ADDRESS}};
+
+static int compare_second_bytes(void)
+{
+    uint8_t area[PIL_AREA_LENGTH(1)] = {1}, *r = area + PIL_RECORD_AT(0);
+    uint64_t sound = 0, wrong = 0;
+
+    r[PIL_RECORD_FIXED] = OWN_ADDRESS;
+    for (unsigned how = 0; how < PLACES_TRIED * MORES_TRIED * STATES_TRIED; how++) {
+        unsigned place = how / STATES_TRIED / MORES_TRIED, more = how / STATES_TRIED % MORES_TRIED;
+        uint64_t pairs;
+
+        r[PIL_RECORD_ABILITIES] = places_tried[place].abilities;
+        r[PIL_RECORD_ADDRESS] = places_tried[place].address;
+        r[PIL_RECORD_MORE] = (uint8_t)more;
+        r[PIL_RECORD_CONFIGURED] = (uint8_t)(how % STATES_TRIED);
+        pairs = compare_pairs(area);
+        sound += pairs;
+        wrong += pairs != pairs_sound[place][more][how % STATES_TRIED];
+    }
+    printf("  of %d pairs of bytes 20 and 21, each with bytes 7 and 3 up to %d and %d, without ability 32 at the fixed "
+           "address, at another and at 31, and with it, %" PRIu64 " are sound%s\n", BYTES * BYTES, MORES_TRIED - 1,
+           STATES_TRIED - 1, sound, wrong ? "  NOT ALL" : "");
+    return wrong == 0;
+}
+
+/* A set-up of one device; gives whether it was accepted. */
+static int compare_item(unsigned abilities, size_t length, unsigned more, unsigned second)
+{
+    struct call c = {.which = SET_UP, .area_len = PIL_AREA_LENGTH(1), .input_len = length};
+
+    memset(input, 0, LONGER_ITEM);
+    input[PIL_ITEM_ABILITIES] = (uint8_t)abilities;
+    input[PIL_ITEM_MORE] = (uint8_t)more;
+    input[PIL_ITEM_SECOND] = (uint8_t)second;
+    return compare_call(&c).refusal == PIL_ACCEPTED;
+}
+
+/* Items of zeros, of each length and for each number of devices; gives how many were accepted. */
+static unsigned compare_lengths(void)
+{
+    unsigned accepted = 0;
+
+    memset(input, 0, INPUT_ROOM);
+    for (unsigned devices = 1; devices <= PIL_MOST_DEVICES; devices++)
+        for (size_t length = 0; length <= LONGER_ITEM * devices; length++) {
+            struct call c = {.which = SET_UP, .area_len = PIL_AREA_LENGTH(devices), .input_len = length};
+
+            accepted += compare_call(&c).refusal == PIL_ACCEPTED;
+        }
+    return accepted;
+}
+
+/* All pairs of an item's bytes 12 and 13, and all bytes 12 of a shorter one, without ability 32 and with it. */
+static int compare_items(void)
+{
+    unsigned pairs[2] = {0}, shorter[2] = {0}, lengths = compare_lengths();
+    int all;
+
+    for (unsigned more = 0; more < BYTES; more++)
+        for (unsigned automatic = 0; automatic < 2; automatic++) {
+            unsigned abilities = automatic ? PIL_ABILITY_AUTO_ADDRESS : 0;
+
+            shorter[automatic] += (unsigned)compare_item(abilities, PIL_POLL_ITEM_LENGTH, more, 0);
+            for (unsigned second = 0; second < BYTES; second++)
+                pairs[automatic] += (unsigned)compare_item(abilities, PIL_EXTENDED_ITEM_LENGTH, more, second);
+        }
+    all = pairs[0] == 2 + 2 * 32 && pairs[1] == 2 && shorter[0] == 4 && shorter[1] == 2
+        && lengths == 3 * PIL_MOST_DEVICES;
+    printf("  of %d pairs of an item's bytes 12 and 13 %u were accepted without ability 32, %u with it, of %d bytes 12 "
+           "alone %u and %u; of all lengths of items for 1 to %d devices %u%s\n", BYTES * BYTES, pairs[0], pairs[1],
+           BYTES, shorter[0], shorter[1], PIL_MOST_DEVICES, lengths, all ? "" : "  NOT ALL");
+    return all;
+}
+
 static void compare_table(void)
 {
 #if HAVE_KINDS
@@ -1978,6 +2486,63 @@ static int report_polls(void)
     return enough;
 }
 
+static int report_own_seconds(void)
+{
+    static const char *const of[PRIMARIES] = {"no primary", "the listen primary", "the talk primary", "both primaries"};
+    int enough = 1;
+
+    for (unsigned unaddress = 0; unaddress < 2; unaddress++)
+        for (unsigned with = 0; with < PRIMARIES; with++) {
+            printf("  its own SAD %s ability 64, with ", unaddress ? "with" : "without");
+            enough &= report_counts(of[with], own_talkers[with][unaddress], 0, TALKERS, LEAST_MOVES);
+            printf("    as no listener (0) and a listener (1)");
+            enough &= report_counts("", own_listeners[with][unaddress], 0, 2, LEAST_MOVES);
+        }
+    return enough;
+}
+
+static int report_seconds(void)
+{
+    static const char *const behind[HEARDS] = {"nothing", "its own LAD", "its own TAD", "its own LAD and a command",
+                                               "its own TAD and a command"};
+    int enough = report_own_seconds();
+
+    enough &= report_counts("  its own SAD with the listen primary and no ability 1 (0), with the talk primary and "
+                            "none of 2 to 16 (1)", unable_seconds, 0, 2, LEAST_MOVES);
+    enough &= report_counts("  another's SAD without the talk primary, by talker states", other_seconds[0], 0, TALKERS,
+                            LEAST_MOVES);
+    enough &= report_counts("  another's SAD with the talk primary, by talker states", other_seconds[1], 0, TALKERS,
+                            LEAST_MOVES);
+    for (unsigned i = 0; i < HEARDS; i++) {
+        printf("  hop by hop, another's SAD (0) and its own (1) behind ");
+        enough &= report_counts(behind[i], seconds[i], 0, 2, LEAST_MOVES);
+    }
+    return enough;
+}
+
+static int report_extended(void)
+{
+    int enough = report_counts("loops of simple devices (0), extended ones (1), both (2)", mixes, 0, MIXES, LEAST);
+
+    enough &= report_counts("extended devices after a hop, not assigned (0), assigned (1), half (2), half at 31 (3)",
+                            assigneds[0], 0, ASSIGNEDS, LEAST);
+    enough &= report_counts("  those that can be polled", assigneds[1], 0, ASSIGNEDS, LEAST);
+    for (unsigned by = 0; by < ASSIGNERS; by++) {
+        printf("  from each of these, ");
+        enough &= report_counts(called_names[by + 1 < ASSIGNERS ? GOT_AES + by : GOT_AAU], assignings[by], 0, ASSIGNEDS,
+                                LEAST_MOVES);
+    }
+    for (unsigned by = 0; by < CALLED; by++) {
+        printf("  with no primary received (0), the listen primary (1), the talk primary (2), both (3), ");
+        enough &= report_counts(called_names[by], callings[by], 0, PRIMARIES, LEAST_MOVES);
+    }
+    enough &= report_seconds();
+    enough &= report_counts("  its own LAD, by remote and local as above", primary_moves, 0, STANDINGS, LEAST_MOVES);
+    enough &= report_counts("simple devices that let go by: SAD as a talker (0), AES (1) and AEP (2) where AAD would "
+                            "be obeyed", passings, 0, PASSINGS, LEAST);
+    return enough;
+}
+
 /* Header, records and links have a head each. */
 static int report_tried_whole(void)
 {
@@ -2026,9 +2591,12 @@ static int report(void)
     enough &= report_loads();
     enough &= report_remote();
     enough &= report_polls();
+    enough &= report_extended();
     enough &= report_counts("set-ups of items of 12 bytes accepted (0), refused with 2 (1), of 13 bytes accepted (2), "
-                            "refused with 2 for a last byte (3), for others (4), refused with 1 for lengths mixed (5), "
-                            "for items of 14 bytes (6), for another length (7)", settings, 0, SETTINGS, LEAST);
+                            "refused with 2 for a last byte (3), for others (4), of 14 bytes accepted (5), refused "
+                            "with 2 for a last byte (6), the last two (7), for others (8), refused with 1 for lengths "
+                            "mixed (9), for items of 15 bytes (10), for another length (11)", settings, 0, SETTINGS,
+                            LEAST);
     enough &= report_counts("encodings accepted with C1 0 (0), with C1 1 (1), refused for the kind (2), the offset "
                             "(3), a C1 over 1 (4), a C1 of 1 on a kind without one (5), several causes (6)", encodings,
                             0, ENCODINGS, LEAST);
@@ -2067,6 +2635,9 @@ int main(int argc, char **argv)
     compare_table();
     enough &= compare_remote();
     enough &= compare_polls();
+    enough &= compare_extended();
+    enough &= compare_second_bytes();
+    enough &= compare_items();
     enough &= order_histories(seed, wanted / 500);
     return enough || wanted < FULL_RUN ? 0 : 2;
 }

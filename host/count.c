@@ -105,6 +105,8 @@ static const struct {
     {"drain of a full link, data bytes", data_bytes, drain, LOOP_DRAIN},
     {"drain of a full link, talk addresses", talk_addresses, drain, LOOP_DRAIN},
     {"drain of a full link, IDYs answered", polled_loop, drain, LOOP_DRAIN},
+    {"hop of a TAD, extended device", extended_loop, first_hop, 0x445},
+    {"drain of a full link, TADs and SADs", extended_loop, drain, LOOP_DRAIN},
     {"busy loop: soundness", busy_loop, refused_hop, PIL_NO_DEVICE},
     {"busy loop: hop of a talker's own byte", busy_loop_to_hop, last_hop,
      LOOP_FIRST_BYTE + PIL_MOST_ID + PIL_MOST_DATA / 2},

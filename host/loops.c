@@ -8,7 +8,10 @@
 enum {
     STATUS = 0x40,
     ACCESSORY = 0x50,
+    TAD = 0x440,
+    SAD = 0x460,
     IDY = 0x600,
+    PRIMARY = 5, /* the address of all extended devices */
     MIDDLE = LOOP_DEVICES / 2
 };
 
@@ -24,18 +27,23 @@ void idle_loop(uint8_t *area)
     model_set_up(area, LOOP_LENGTH, items, sizeof items);
 }
 
+/* The frame in a place of a link. */
+static void set_frame(uint8_t *area, unsigned link, unsigned place, unsigned frame)
+{
+    uint8_t *at = area + PIL_LINK_AT(LOOP_DEVICES, link) + PIL_LINK_FRAMES + 2 * place;
+
+    at[0] = (uint8_t)frame;
+    at[1] = (uint8_t)(frame >> 8);
+}
+
 void fill_link(uint8_t *area, unsigned link, unsigned frames, unsigned first, unsigned step)
 {
     uint8_t *at = area + PIL_LINK_AT(LOOP_DEVICES, link);
 
     memset(at, 0, PIL_LINK_LENGTH);
     at[PIL_LINK_COUNT] = (uint8_t)frames;
-    for (unsigned k = 0; k < frames; k++) {
-        unsigned frame = first + k * step;
-
-        at[PIL_LINK_FRAMES + 2 * k] = (uint8_t)frame;
-        at[PIL_LINK_FRAMES + 2 * k + 1] = (uint8_t)(frame >> 8);
-    }
+    for (unsigned k = 0; k < frames; k++)
+        set_frame(area, link, k, first + k * step);
 }
 
 /* The byte that a device in a sending state sent last, else 0. */
@@ -114,6 +122,23 @@ void polled_loop(uint8_t *area)
         area[PIL_RECORD_AT(i) + PIL_RECORD_POLL_STATUS] = i % 3 == 0;
     }
     fill_link(area, 0, PIL_LINK_DEPTH, IDY, 1);
+}
+
+void extended_loop(uint8_t *area)
+{
+    idle_loop(area);
+    for (unsigned i = 0; i < LOOP_DEVICES; i++) {
+        uint8_t *record = area + PIL_RECORD_AT(i);
+
+        record[PIL_RECORD_ABILITIES] = 0xff - PIL_ABILITY_AUTO_ADDRESS;
+        record[PIL_RECORD_MORE] |= PIL_MORE_EXTENDED;
+        record[PIL_RECORD_CONFIGURED] = PIL_CONFIGURED;
+        record[PIL_RECORD_ADDRESS] = PRIMARY;
+        record[PIL_RECORD_SECOND] = (uint8_t)i;
+    }
+    fill_link(area, 0, PIL_LINK_DEPTH, TAD + PRIMARY, 0);
+    set_frame(area, 0, 1, SAD);
+    set_frame(area, 0, 3, SAD + LOOP_DEVICES - 1);
 }
 
 void talker_loop(uint8_t *area)

@@ -37,6 +37,9 @@ void busy_loop_to_drain(uint8_t *area);
 /* An idle loop whose devices answer parallel polls, told by the PPEs in turn, every third status yes; link 0 holds
    four IDYs. */
 void polled_loop(uint8_t *area);
+/* An idle loop of extended devices, each with a second address of its own behind one primary; link 0 holds the TAD of
+   that primary and the SAD of the first device, and the same for the last. */
+void extended_loop(uint8_t *area);
 /* Full records of idle devices, but one in the middle is addressed to talk and has sent nothing; links empty. */
 void talker_loop(uint8_t *area);
 

@@ -11,6 +11,8 @@
 
 enum {
     REPLIES = PIL_ABILITY_DATA | PIL_ABILITY_STATUS | PIL_ABILITY_ID | PIL_ABILITY_ACCESSORY,
+    MORE = PIL_MORE_POLL | PIL_MORE_EXTENDED, /* all further abilities */
+    MOST_SECOND = PIL_SECOND_ADDRESS + PIL_PRIMARY_RECEIVED, /* the most that bytes 20 and 21 can be */
     ETO = 0x540,
     ETE = 0x541,
     DATA_PLACES = 8, /* D1 to D8 */
@@ -219,10 +221,18 @@ struct pil_polled model_poll_count(uint64_t frame)
 
 /* Soundness: 01, The lent area. */
 
-/* 001, 2.12, has a device with PP1 need the listener function; 02, f, asks for none. */
+static int more_extended(unsigned more)
+{
+    return MODEL_FAULT == 115 ? more == PIL_MORE_EXTENDED : (more & PIL_MORE_EXTENDED) != 0;
+}
+
+/* 001, 2.12, has a device with PP1 need the listener function; 02, f, asks for none. 2.14: a device has one of the
+   automatic addresses. */
 static int abilities_allowed(unsigned abilities, unsigned more)
 {
     if (MODEL_FAULT == 109 && (more & PIL_MORE_POLL) && !(abilities & PIL_ABILITY_LISTEN))
+        return 0;
+    if (more_extended(more) && (abilities & PIL_ABILITY_AUTO_ADDRESS) && MODEL_FAULT != 116)
         return 0;
     if ((abilities & PIL_ABILITY_SERVICE) && !(abilities & PIL_ABILITY_STATUS))
         return 0;
@@ -234,13 +244,34 @@ static int abilities_allowed(unsigned abilities, unsigned more)
 /* Byte 7 of the record that an item of this length becomes (02, f). */
 static unsigned more_of_item(const uint8_t *item, size_t length)
 {
+    if (MODEL_FAULT == 117 && length > PIL_ITEM_SECOND)
+        return item[length - 1];
     return length > PIL_ITEM_MORE && MODEL_FAULT != 93 ? item[PIL_ITEM_MORE] : 0;
+}
+
+/* Its second addresses (02, i), which power on with no primary received. */
+static unsigned second_of_item(const uint8_t *item, size_t length)
+{
+    return length > PIL_ITEM_SECOND && MODEL_FAULT != 118 ? item[PIL_ITEM_SECOND] : 0;
+}
+
+/* A simple device has none. */
+static int second_allowed(const uint8_t *item, size_t length)
+{
+    unsigned second = second_of_item(item, length);
+
+    if (!more_extended(more_of_item(item, length)))
+        return second == 0 || (MODEL_FAULT == 119 && second <= PIL_SECOND_ADDRESS);
+    if (MODEL_FAULT == 120 && length <= PIL_ITEM_SECOND)
+        return 0;
+    return second <= PIL_SECOND_ADDRESS + (MODEL_FAULT == 121);
 }
 
 static int item_allowed(const uint8_t *item, size_t length)
 {
     return abilities_allowed(item[PIL_ITEM_ABILITIES], more_of_item(item, length))
-        && more_of_item(item, length) <= PIL_MORE_POLL + (MODEL_FAULT == 101)
+        && more_of_item(item, length) <= MORE + (MODEL_FAULT == 101) - (MODEL_FAULT == 122)
+        && second_allowed(item, length)
         && item[PIL_ITEM_FIXED] <= PIL_NO_ADDRESS
         && item[PIL_ITEM_ID_LENGTH] <= PIL_MOST_ID
         && all_zero(item + PIL_ITEM_ID, item[PIL_ITEM_ID_LENGTH], PIL_MOST_ID);
@@ -250,26 +281,106 @@ static int ranges_hold(const uint8_t *r)
 {
     return r[PIL_RECORD_FIXED] <= PIL_NO_ADDRESS
         && r[PIL_RECORD_ADDRESS] <= PIL_NO_ADDRESS
-        && r[PIL_RECORD_CONFIGURED] <= 1
+        && r[PIL_RECORD_CONFIGURED] <= PIL_HALF_ASSIGNED + (MODEL_FAULT == 123)
         && r[PIL_RECORD_LISTENER] <= 1
         && r[PIL_RECORD_TALKER] <= PIL_TALKER_ACCESSORY
         && r[PIL_RECORD_SERVICE] <= PIL_SERVICE_POLLED
-        && r[PIL_RECORD_MORE] <= PIL_MORE_POLL + (MODEL_FAULT == 92)
+        && r[PIL_RECORD_MORE] <= MORE + (MODEL_FAULT == 92)
         && r[PIL_RECORD_NRD] <= 1
         && r[PIL_RECORD_ID_LENGTH] <= PIL_MOST_ID
         && r[PIL_RECORD_DATA_LENGTH] <= PIL_MOST_DATA
         && r[PIL_RECORD_SENT] <= r[PIL_RECORD_DATA_LENGTH]
         && r[PIL_RECORD_REMOTE] <= PIL_REMOTE_LOCKED + (MODEL_FAULT == 57)
         && r[PIL_RECORD_ENABLED] <= 1 + (MODEL_FAULT == 58)
-        && r[PIL_RECORD_END] <= PIL_LAST_END + (MODEL_FAULT == 31)
-        && (all_zero(r, PIL_RECORD_ZEROS, PIL_RECORD_POLL) || MODEL_FAULT == 108);
+        && r[PIL_RECORD_END] <= PIL_LAST_END + (MODEL_FAULT == 31);
+}
+
+static int extended(const uint8_t *r)
+{
+    return more_extended(r[PIL_RECORD_MORE]);
+}
+
+/* The second address and the flag of byte 20 or 21. */
+static unsigned second_address(const uint8_t *r, unsigned byte)
+{
+    return r[byte] & PIL_SECOND_ADDRESS;
+}
+
+static int primary_received(const uint8_t *r, unsigned byte)
+{
+    return (r[byte] & PIL_PRIMARY_RECEIVED) != 0;
+}
+
+static int simple_address_sound(const uint8_t *r)
+{
+    if ((r[PIL_RECORD_FIXED_SECOND] != 0 && MODEL_FAULT != 108) || (r[PIL_RECORD_SECOND] != 0 && MODEL_FAULT != 124))
+        return 0;
+    if (r[PIL_RECORD_CONFIGURED] > PIL_CONFIGURED && MODEL_FAULT != 125)
+        return 0;
+    if (r[PIL_RECORD_CONFIGURED])
+        return (r[PIL_RECORD_ABILITIES] & PIL_ABILITY_AUTO_ADDRESS) && r[PIL_RECORD_ADDRESS] != PIL_NO_ADDRESS;
+    return r[PIL_RECORD_ADDRESS] == r[PIL_RECORD_FIXED];
+}
+
+/* At 0 both present addresses are the fixed ones, at 1 both are legal. */
+static int unconfigured_sound(const uint8_t *r)
+{
+    unsigned second = second_address(r, PIL_RECORD_SECOND);
+
+    if (MODEL_FAULT == 126 && second == PIL_NO_ADDRESS)
+        return 0;
+    return (r[PIL_RECORD_ADDRESS] == r[PIL_RECORD_FIXED] || MODEL_FAULT == 127)
+        && (second == second_address(r, PIL_RECORD_FIXED_SECOND) || MODEL_FAULT == 128);
+}
+
+static int configured_sound(const uint8_t *r)
+{
+    if (MODEL_FAULT == 129 && !(r[PIL_RECORD_ABILITIES] & PIL_ABILITY_AUTO_ADDRESS))
+        return 0;
+    if (MODEL_FAULT == 130 && second_address(r, PIL_RECORD_FIXED_SECOND) == PIL_NO_ADDRESS)
+        return 0;
+    return (r[PIL_RECORD_ADDRESS] != PIL_NO_ADDRESS || MODEL_FAULT == 131)
+        && (second_address(r, PIL_RECORD_SECOND) != PIL_NO_ADDRESS || MODEL_FAULT == 132);
+}
+
+/* Any addresses in range: 02, i, asks for no more, though AES gives no 31 and leaves the fixed primary. */
+static int half_assigned_sound(const uint8_t *r)
+{
+    if (MODEL_FAULT == 133 && second_address(r, PIL_RECORD_SECOND) == PIL_NO_ADDRESS)
+        return 0;
+    return (MODEL_FAULT != 134 || r[PIL_RECORD_ADDRESS] != PIL_NO_ADDRESS)
+        && (MODEL_FAULT != 135 || r[PIL_RECORD_ADDRESS] == r[PIL_RECORD_FIXED]);
+}
+
+/* Bytes 20 and 21 have two bits left over. The flags ask for no ability, and both may be set. */
+static int second_bytes_sound(const uint8_t *r)
+{
+    int listen = primary_received(r, PIL_RECORD_FIXED_SECOND), talk = primary_received(r, PIL_RECORD_SECOND);
+
+    if (MODEL_FAULT == 136 && listen && talk)
+        return 0;
+    if (MODEL_FAULT == 137 && listen && !(r[PIL_RECORD_ABILITIES] & PIL_ABILITY_LISTEN))
+        return 0;
+    if (MODEL_FAULT == 138 && talk && !(r[PIL_RECORD_ABILITIES] & REPLIES))
+        return 0;
+    return (r[PIL_RECORD_FIXED_SECOND] <= MOST_SECOND || MODEL_FAULT == 139)
+        && (r[PIL_RECORD_SECOND] <= MOST_SECOND || MODEL_FAULT == 140);
+}
+
+static int extended_address_sound(const uint8_t *r)
+{
+    if (!second_bytes_sound(r))
+        return 0;
+    switch (r[PIL_RECORD_CONFIGURED]) {
+    case PIL_UNCONFIGURED: return unconfigured_sound(r);
+    case PIL_CONFIGURED: return configured_sound(r);
+    default: return half_assigned_sound(r);
+    }
 }
 
 static int address_sound(const uint8_t *r)
 {
-    if (r[PIL_RECORD_CONFIGURED])
-        return (r[PIL_RECORD_ABILITIES] & PIL_ABILITY_AUTO_ADDRESS) && r[PIL_RECORD_ADDRESS] != PIL_NO_ADDRESS;
-    return r[PIL_RECORD_ADDRESS] == r[PIL_RECORD_FIXED];
+    return extended(r) ? extended_address_sound(r) : simple_address_sound(r);
 }
 
 /* The abilities one of which a talker state needs. */
@@ -324,7 +435,9 @@ static int reply_sound(const uint8_t *r)
 
 static int pollable(const uint8_t *r)
 {
-    return (r[PIL_RECORD_MORE] & PIL_MORE_POLL) != 0;
+    if (MODEL_FAULT == 141)
+        return r[PIL_RECORD_MORE] == PIL_MORE_POLL;
+    return (r[PIL_RECORD_MORE] & (MODEL_FAULT == 142 ? MORE : PIL_MORE_POLL)) != 0;
 }
 
 /* Configuration and individual status (02, f), which only a device that can be polled has. */
@@ -617,25 +730,45 @@ static void individual_status(uint8_t *r, uint64_t status)
     r[PIL_RECORD_POLL_STATUS] = MODEL_FAULT == 86 ? (uint8_t)status : status != 0;
 }
 
-static void listen_address(uint8_t *r, unsigned address)
+static int able_to_listen(const uint8_t *r)
 {
-    listen_address_for_control(r, address);
-    if (address != r[PIL_RECORD_ADDRESS] || !(r[PIL_RECORD_ABILITIES] & PIL_ABILITY_LISTEN))
-        return;
+    return (r[PIL_RECORD_ABILITIES] & PIL_ABILITY_LISTEN) != 0;
+}
+
+static int able_to_talk(const uint8_t *r)
+{
+    return (r[PIL_RECORD_ABILITIES] & REPLIES) != 0;
+}
+
+/* The whole address to listen is received: one frame of it, or two. */
+static void addressed_to_listen(uint8_t *r)
+{
     r[PIL_RECORD_LISTENER] = 1;
     if (r[PIL_RECORD_ABILITIES] & PIL_ABILITY_UNADDRESS)
         stop_sending(r, PIL_TALKER_IDLE);
 }
 
-static void talk_address(uint8_t *r, unsigned address)
+/* And that to talk. */
+static void addressed_to_talk(uint8_t *r)
 {
-    if (address != r[PIL_RECORD_ADDRESS] || !(r[PIL_RECORD_ABILITIES] & REPLIES)) {
-        stop_sending(r, PIL_TALKER_IDLE);
-        return;
-    }
     stop_sending(r, PIL_TALKER_ADDRESSED);
     if (r[PIL_RECORD_ABILITIES] & PIL_ABILITY_UNADDRESS)
         r[PIL_RECORD_LISTENER] = 0;
+}
+
+static void listen_address(uint8_t *r, unsigned address)
+{
+    listen_address_for_control(r, address);
+    if (address == r[PIL_RECORD_ADDRESS] && able_to_listen(r))
+        addressed_to_listen(r);
+}
+
+static void talk_address(uint8_t *r, unsigned address)
+{
+    if (address == r[PIL_RECORD_ADDRESS] && able_to_talk(r))
+        addressed_to_talk(r);
+    else
+        stop_sending(r, PIL_TALKER_IDLE);
 }
 
 /* Of remote and local and of the poll it changes nothing. */
@@ -664,11 +797,228 @@ static unsigned auto_address(uint8_t *r, unsigned address, unsigned frame)
 {
     if (r[PIL_RECORD_CONFIGURED] && MODEL_FAULT != 1)
         return frame;
-    if (!(r[PIL_RECORD_ABILITIES] & PIL_ABILITY_AUTO_ADDRESS))
+    if (!(r[PIL_RECORD_ABILITIES] & PIL_ABILITY_AUTO_ADDRESS) && (MODEL_FAULT != 205 || !extended(r)))
         return frame;
     r[PIL_RECORD_ADDRESS] = (uint8_t)address;
     r[PIL_RECORD_CONFIGURED] = 1;
     return frame + 1;
+}
+
+/* Extended addresses: 02, i, and 001, 2.7, 2.8 and 2.15. The flag of byte 20 is LPAS, that of byte 21 TPAS: the primary
+   was received, and the next command may be the second address. */
+
+static void forget_primary(uint8_t *r, unsigned byte)
+{
+    r[byte] &= PIL_SECOND_ADDRESS;
+}
+
+/* To LPIS and TPIS. */
+static void forget_primaries(uint8_t *r)
+{
+    forget_primary(r, PIL_RECORD_FIXED_SECOND);
+    forget_primary(r, PIL_RECORD_SECOND);
+}
+
+/* What some faults have the primary do already, and only the second address may. */
+static void listen_primary_at_once(uint8_t *r)
+{
+    if (MODEL_FAULT == 143)
+        r[PIL_RECORD_LISTENER] = 1;
+    if (MODEL_FAULT == 144 && (r[PIL_RECORD_ABILITIES] & PIL_ABILITY_UNADDRESS))
+        stop_sending(r, PIL_TALKER_IDLE);
+}
+
+static void talk_primary_at_once(uint8_t *r)
+{
+    if (MODEL_FAULT == 145)
+        stop_sending(r, PIL_TALKER_ADDRESSED);
+    if (MODEL_FAULT == 146 && (r[PIL_RECORD_ABILITIES] & PIL_ABILITY_UNADDRESS))
+        r[PIL_RECORD_LISTENER] = 0;
+    if (MODEL_FAULT == 147)
+        stop_sending(r, PIL_TALKER_IDLE);
+}
+
+static int own_primary(const uint8_t *r, unsigned address)
+{
+    return address == r[MODEL_FAULT == 238 ? PIL_RECORD_FIXED : PIL_RECORD_ADDRESS];
+}
+
+/* A LAD. The device's own is enough to give the loop control (02, d). */
+static void listen_primary(uint8_t *r, unsigned address)
+{
+    int own = own_primary(r, address), able = able_to_listen(r);
+
+    if (MODEL_FAULT != 148)
+        listen_address_for_control(r, address);
+    if ((own || MODEL_FAULT == 149) && (able || MODEL_FAULT == 150)) {
+        r[PIL_RECORD_FIXED_SECOND] |= PIL_PRIMARY_RECEIVED;
+        if (MODEL_FAULT != 151)
+            forget_primary(r, PIL_RECORD_SECOND);
+        listen_primary_at_once(r);
+    } else if ((own || MODEL_FAULT != 152) && (!own || MODEL_FAULT != 153)) {
+        forget_primaries(r);
+    }
+}
+
+/* A TAD. The talker stays as it is till the second address, at any other TAD it is idle. */
+static void talk_primary(uint8_t *r, unsigned address)
+{
+    int own = own_primary(r, address), able = able_to_talk(r);
+
+    if ((own || MODEL_FAULT == 154) && (able || MODEL_FAULT == 155)) {
+        r[PIL_RECORD_SECOND] |= PIL_PRIMARY_RECEIVED;
+        if (MODEL_FAULT != 156)
+            forget_primary(r, PIL_RECORD_FIXED_SECOND);
+        talk_primary_at_once(r);
+        return;
+    }
+    if (MODEL_FAULT != 157)
+        stop_sending(r, PIL_TALKER_IDLE);
+    if ((own || MODEL_FAULT != 158) && (!own || MODEL_FAULT != 159))
+        forget_primaries(r);
+}
+
+/* The own second address behind the primary to listen. */
+static void listen_second(uint8_t *r)
+{
+    if (MODEL_FAULT == 160)
+        r[PIL_RECORD_LISTENER] = 1;
+    else
+        addressed_to_listen(r);
+    if (MODEL_FAULT == 161)
+        stop_sending(r, PIL_TALKER_IDLE);
+    if (MODEL_FAULT == 162 && r[PIL_RECORD_ENABLED])
+        control(r, 1, is_locked(r));
+}
+
+/* And behind that to talk. A sender is addressed again, and its reply forgotten. */
+static void talk_second(uint8_t *r)
+{
+    unsigned listener = r[PIL_RECORD_LISTENER];
+
+    if (MODEL_FAULT == 163 && sending(r))
+        return;
+    if (MODEL_FAULT == 164)
+        r[PIL_RECORD_TALKER] = PIL_TALKER_ADDRESSED;
+    else
+        addressed_to_talk(r);
+    if (MODEL_FAULT == 165)
+        r[PIL_RECORD_LISTENER] = (uint8_t)listener;
+    if (MODEL_FAULT == 166)
+        r[PIL_RECORD_LISTENER] = 0;
+}
+
+/* MSA: first as a listener, then as a talker. Where a flag lacks its ability it is kept and does nothing. */
+static void own_second_address(uint8_t *r)
+{
+    int listen = primary_received(r, PIL_RECORD_FIXED_SECOND) || MODEL_FAULT == 167;
+    int talk = primary_received(r, PIL_RECORD_SECOND) || MODEL_FAULT == 168;
+
+    listen = listen && (able_to_listen(r) || MODEL_FAULT == 169);
+    talk = talk && (able_to_talk(r) || MODEL_FAULT == 170);
+    if (MODEL_FAULT == 171 && talk)
+        talk_second(r);
+    if (listen)
+        listen_second(r);
+    if (talk && MODEL_FAULT != 171 && (MODEL_FAULT != 172 || !listen))
+        talk_second(r);
+    if (MODEL_FAULT == 173 || (MODEL_FAULT == 174 && !listen && !talk))
+        forget_primaries(r);
+}
+
+/* OSA: another device of this primary is meant. */
+static void other_second_address(uint8_t *r)
+{
+    if ((primary_received(r, PIL_RECORD_SECOND) || MODEL_FAULT == 175) && MODEL_FAULT != 176)
+        stop_sending(r, PIL_TALKER_IDLE);
+    if (MODEL_FAULT == 177 && primary_received(r, PIL_RECORD_FIXED_SECOND))
+        r[PIL_RECORD_LISTENER] = 0;
+    if (MODEL_FAULT != 178)
+        forget_primaries(r);
+}
+
+static void secondary_address(uint8_t *r, unsigned address)
+{
+    unsigned byte = MODEL_FAULT == 179 ? PIL_RECORD_FIXED_SECOND : PIL_RECORD_SECOND;
+
+    if (address == (MODEL_FAULT == 239 ? r[byte] : second_address(r, byte)))
+        own_second_address(r);
+    else
+        other_second_address(r);
+}
+
+/* AAU needs no ability here. */
+static void auto_extended_unconfigure(uint8_t *r)
+{
+    if (MODEL_FAULT == 180 || (MODEL_FAULT == 181 && r[PIL_RECORD_CONFIGURED] == PIL_HALF_ASSIGNED))
+        return;
+    r[PIL_RECORD_CONFIGURED] = PIL_UNCONFIGURED;
+    if (MODEL_FAULT != 182)
+        r[PIL_RECORD_ADDRESS] = r[PIL_RECORD_FIXED];
+    if (MODEL_FAULT != 183)
+        r[PIL_RECORD_SECOND] = (uint8_t)((r[PIL_RECORD_SECOND] & PIL_PRIMARY_RECEIVED)
+                                         | second_address(r, PIL_RECORD_FIXED_SECOND));
+    if (MODEL_FAULT == 184)
+        r[PIL_RECORD_LISTENER] = 0;
+    if (MODEL_FAULT == 185)
+        stop_sending(r, PIL_TALKER_IDLE);
+}
+
+/* The assignment state in which an AES is taken. */
+static int awaits_secondary(const uint8_t *r)
+{
+    switch (r[PIL_RECORD_CONFIGURED]) {
+    case PIL_UNCONFIGURED: return 1;
+    case PIL_CONFIGURED: return MODEL_FAULT == 186;
+    default: return MODEL_FAULT == 187;
+    }
+}
+
+/* And that for an AEP, where the second address is a legal one. */
+static int awaits_primary(const uint8_t *r)
+{
+    switch (r[PIL_RECORD_CONFIGURED]) {
+    case PIL_UNCONFIGURED: return MODEL_FAULT == 188;
+    case PIL_CONFIGURED: return MODEL_FAULT == 189;
+    default: return second_address(r, PIL_RECORD_SECOND) != PIL_NO_ADDRESS || MODEL_FAULT == 190;
+    }
+}
+
+/* Gives the frame sent, NES or IES. */
+static unsigned auto_extended_secondary(uint8_t *r, unsigned address, unsigned frame)
+{
+    if (!extended(r))
+        return frame + (MODEL_FAULT == 191 && r[PIL_RECORD_CONFIGURED] == PIL_UNCONFIGURED);
+    if (!awaits_secondary(r))
+        return frame;
+    r[PIL_RECORD_SECOND] = (uint8_t)((MODEL_FAULT == 192 ? 0 : r[PIL_RECORD_SECOND] & PIL_PRIMARY_RECEIVED) | address);
+    if (MODEL_FAULT == 193)
+        r[PIL_RECORD_FIXED_SECOND] = r[PIL_RECORD_SECOND];
+    r[PIL_RECORD_CONFIGURED] = MODEL_FAULT == 194 ? PIL_CONFIGURED : PIL_HALF_ASSIGNED;
+    if (MODEL_FAULT == 195)
+        r[PIL_RECORD_LISTENER] = 0;
+    if (MODEL_FAULT == 196)
+        stop_sending(r, PIL_TALKER_IDLE);
+    return frame + (MODEL_FAULT != 197 && (MODEL_FAULT != 198 || address + 1 != PIL_NO_ADDRESS));
+}
+
+/* Gives the frame sent, which is the same: a primary is for a whole group. */
+static unsigned auto_extended_primary(uint8_t *r, unsigned address, unsigned frame)
+{
+    if (!extended(r))
+        return MODEL_FAULT == 199 ? auto_address(r, address, frame) : frame;
+    if (!awaits_primary(r))
+        return frame;
+    r[PIL_RECORD_ADDRESS] = (uint8_t)address;
+    if (MODEL_FAULT == 200)
+        r[PIL_RECORD_FIXED] = (uint8_t)address;
+    if (MODEL_FAULT != 201)
+        r[PIL_RECORD_CONFIGURED] = PIL_CONFIGURED;
+    if (MODEL_FAULT == 202)
+        r[PIL_RECORD_LISTENER] = 0;
+    if (MODEL_FAULT == 203)
+        stop_sending(r, PIL_TALKER_IDLE);
+    return frame + (MODEL_FAULT == 204);
 }
 
 /* Bytes that the reply of a sending state has left. */
@@ -765,16 +1115,13 @@ static struct pil_hopped data_or_end(uint8_t *r, unsigned frame)
     return hopped;
 }
 
-/* A command, which goes on unchanged. */
+/* A command, which goes on unchanged; here those that simple and extended devices obey alike. */
 static void obey_command(uint8_t *r, unsigned kind, unsigned frame)
 {
     switch (kind) {
-    case PIL_KIND_LAD: listen_address(r, decoded(PIL_KIND_LAD, frame).offset); break;
     case PIL_KIND_UNL: r[PIL_RECORD_LISTENER] = 0; break;
-    case PIL_KIND_TAD: talk_address(r, decoded(PIL_KIND_TAD, frame).offset); break;
     case PIL_KIND_UNT: stop_sending(r, PIL_TALKER_IDLE); break;
     case PIL_KIND_IFC: interface_clear(r); break;
-    case PIL_KIND_AAU: auto_address_unconfigure(r); break;
     case PIL_KIND_REN: remote_enable(r); break;
     case PIL_KIND_NRE: not_remote_enable(r); break;
     case PIL_KIND_LLO: local_lockout(r); break;
@@ -784,6 +1131,63 @@ static void obey_command(uint8_t *r, unsigned kind, unsigned frame)
     case PIL_KIND_PPU: poll_unconfigure(r); break;
     default: break;
     }
+}
+
+/* A simple device has no second address, and lets SAD go by. */
+static void simple_obeys(uint8_t *r, unsigned kind, unsigned frame)
+{
+    switch (kind) {
+    case PIL_KIND_LAD: listen_address(r, decoded(PIL_KIND_LAD, frame).offset); break;
+    case PIL_KIND_TAD: talk_address(r, decoded(PIL_KIND_TAD, frame).offset); break;
+    case PIL_KIND_AAU: auto_address_unconfigure(r); break;
+    case PIL_KIND_SAD:
+        if (MODEL_FAULT == 236)
+            stop_sending(r, PIL_TALKER_IDLE);
+        if (MODEL_FAULT == 237 && able_to_listen(r) && decoded(PIL_KIND_SAD, frame).offset == r[PIL_RECORD_ADDRESS])
+            addressed_to_listen(r);
+        break;
+    default: obey_command(r, kind, frame);
+    }
+}
+
+/* The commands that send back to LPIS and TPIS: all of them (02, i: kinds 3 to 24), and no ready frame. With each of
+   the faults 208 to 226 there is one that does not. */
+static int ends_primaries(unsigned kind)
+{
+    static const uint8_t kinds[] = {PIL_KIND_NUL, PIL_KIND_GTL, PIL_KIND_SDC, PIL_KIND_PPD, PIL_KIND_GET, PIL_KIND_LLO,
+                                    PIL_KIND_DCL, PIL_KIND_PPU, PIL_KIND_EAR, PIL_KIND_UNL, PIL_KIND_UNT, PIL_KIND_PPE,
+                                    PIL_KIND_IFC, PIL_KIND_REN, PIL_KIND_NRE, PIL_KIND_AAU, PIL_KIND_LPD, PIL_KIND_DDL,
+                                    PIL_KIND_DDT};
+    const unsigned first_fault = 208, faults = sizeof kinds;
+
+    if (MODEL_FAULT >= first_fault && MODEL_FAULT < first_fault + faults && kind == kinds[MODEL_FAULT - first_fault])
+        return 0;
+    if (MODEL_FAULT == 227 && kind == PIL_KIND_NONE)
+        return 1;
+    return kind >= PIL_KIND_NUL && kind <= PIL_KIND_DDT;
+}
+
+/* A command that a fault has an extended device leave alone. */
+static int passed_over(unsigned kind)
+{
+    return (MODEL_FAULT == 231 && kind == PIL_KIND_UNT) || (MODEL_FAULT == 232 && kind == PIL_KIND_UNL)
+        || (MODEL_FAULT == 233 && kind == PIL_KIND_IFC);
+}
+
+/* MLA, MTA and MSA see to the flags themselves. */
+static void extended_obeys(uint8_t *r, unsigned kind, unsigned frame)
+{
+    switch (kind) {
+    case PIL_KIND_LAD: listen_primary(r, decoded(PIL_KIND_LAD, frame).offset); return;
+    case PIL_KIND_TAD: talk_primary(r, decoded(PIL_KIND_TAD, frame).offset); return;
+    case PIL_KIND_SAD: secondary_address(r, decoded(PIL_KIND_SAD, frame).offset); return;
+    case PIL_KIND_AAU: auto_extended_unconfigure(r); break;
+    default:
+        if (!passed_over(kind))
+            obey_command(r, kind, frame);
+    }
+    if (ends_primaries(kind))
+        forget_primaries(r);
 }
 
 static void note_not_ready(uint8_t *r)
@@ -801,10 +1205,25 @@ static unsigned command_ready_or_identify(uint8_t *r, unsigned kind, unsigned fr
     case PIL_KIND_SDI: return asked_to_send(r, PIL_TALKER_ID, frame);
     case PIL_KIND_SAI: return asked_to_send(r, PIL_TALKER_ACCESSORY, frame);
     case PIL_KIND_AAD: return auto_address(r, decoded(PIL_KIND_AAD, frame).offset, frame);
+    case PIL_KIND_AES: return auto_extended_secondary(r, decoded(PIL_KIND_AES, frame).offset, frame);
+    case PIL_KIND_AEP: return auto_extended_primary(r, decoded(PIL_KIND_AEP, frame).offset, frame);
     case PIL_KIND_IDY: return identify(r, frame);
     case PIL_KIND_NRD: note_not_ready(r); return frame;
-    default: obey_command(r, kind, frame); return frame;
+    default: (extended(r) ? extended_obeys : simple_obeys)(r, kind, frame); return frame;
     }
+}
+
+/* Frames that a fault has an extended device take for more than they are. */
+static void taken_for_more(uint8_t *r, unsigned kind)
+{
+    if (MODEL_FAULT == 206 && kind == PIL_KIND_IES)
+        auto_extended_secondary(r, PIL_NO_ADDRESS, 0);
+    if (MODEL_FAULT == 207 && kind == PIL_KIND_IEP)
+        auto_extended_primary(r, PIL_NO_ADDRESS, 0);
+    if (MODEL_FAULT == 228 && kind > PIL_KIND_DDT && kind < PIL_KIND_IDY)
+        forget_primaries(r);
+    if (MODEL_FAULT == 230 && kind == PIL_KIND_IDY)
+        forget_primaries(r);
 }
 
 static struct pil_hopped device_takes(uint8_t *r, unsigned frame)
@@ -812,9 +1231,12 @@ static struct pil_hopped device_takes(uint8_t *r, unsigned frame)
     struct pil_hopped hopped = {0};
     unsigned kind;
 
+    if (MODEL_FAULT == 229 && frame <= messages[PIL_KIND_END].last)
+        forget_primaries(r);
     if (frame <= messages[PIL_KIND_END].last)
         return data_or_end(r, frame);
     kind = kind_of(frame);
+    taken_for_more(r, kind);
     hopped.event = (uint8_t)event_of(r, kind);
     if (MODEL_FAULT == 67 && hopped.event == PIL_EVENT_CLEAR)
         r[PIL_RECORD_LISTENER] = 0;
@@ -833,6 +1255,9 @@ static void power_on(uint8_t *r, const uint8_t *item, size_t length)
     r[PIL_RECORD_MORE] = (uint8_t)more_of_item(item, length);
     r[PIL_RECORD_FIXED] = item[PIL_ITEM_FIXED];
     r[PIL_RECORD_ADDRESS] = item[PIL_ITEM_FIXED];
+    r[PIL_RECORD_FIXED_SECOND] = (uint8_t)second_of_item(item, length);
+    if (MODEL_FAULT != 234)
+        r[PIL_RECORD_SECOND] = (uint8_t)second_of_item(item, length);
     r[PIL_RECORD_ACCESSORY] = item[PIL_ITEM_ACCESSORY];
     r[PIL_RECORD_ID_LENGTH] = item[PIL_ITEM_ID_LENGTH];
     memcpy(r + PIL_RECORD_ID, item + PIL_ITEM_ID, PIL_MOST_ID);
@@ -849,7 +1274,8 @@ static unsigned devices_of_length(size_t area_len)
     return (unsigned)((area_len - none) / each);
 }
 
-/* The length of each item where n of them, all alike, have this length together; 0 if there is no such item (02, f). */
+/* The length of each item where n of them, all alike, have this length together; 0 if there is no such item (02, f and
+   i). */
 static size_t length_of_item(size_t items_len, unsigned n)
 {
     size_t each = items_len / n;
@@ -857,7 +1283,8 @@ static size_t length_of_item(size_t items_len, unsigned n)
     if (items_len % n != 0 && MODEL_FAULT != 94)
         return 0;
     return each == PIL_ITEM_LENGTH || each == PIL_POLL_ITEM_LENGTH
-        || (MODEL_FAULT == 95 && each == PIL_POLL_ITEM_LENGTH + 1) ? each : 0;
+        || (each == PIL_EXTENDED_ITEM_LENGTH && MODEL_FAULT != 235)
+        || (MODEL_FAULT == 95 && each == PIL_EXTENDED_ITEM_LENGTH + 1) ? each : 0;
 }
 
 uint8_t model_set_up(uint8_t *area, size_t area_len, const uint8_t *items, size_t items_len)

@@ -3,6 +3,7 @@
 #include "order.h"
 
 #include "chance.h"
+#include "extended.h"
 #include "pil.h"
 #include "polls.h"
 #include "spoil.h"
@@ -17,7 +18,8 @@ enum {
     MOST_FRAMES = PIL_LINK_DEPTH * (PIL_MOST_DEVICES + 1) + MOST_PUTS, /* in the links at first, and put */
     MOST_LOCALS = 120,
     LEAST = 100, /* openings, old saves, frames in links at first, reopenings, keys to local, poll statuses to another,
-                    clears, triggers, changes of byte 22 and IDYs with a bit made a one: so many of each, or more */
+                    clears, triggers, changes of byte 22, IDYs with a bit made a one, loops of both variants, and
+                    extended devices assigned and addressed: so many of each, or more */
     LEAST_LONGEST = 50 /* how many must have as many devices as there can be */
 };
 
@@ -52,6 +54,8 @@ struct loop {
     unsigned restated; /* poll statuses that were another before */
     unsigned told_anew, made_ones; /* hops that changed byte 22, and that made a bit of an IDY a one; not those of
                                       drains */
+    unsigned assigned, addressed; /* nor here: extended devices that AES, AEP or AAU changed the assignment of, and that
+                                     a SAD made a listener or talker, or neither any more */
     unsigned reopened; /* times that it was saved and opened */
 };
 
@@ -113,17 +117,32 @@ static int put(struct loop *l, unsigned frame)
     return 1;
 }
 
+static void note_extended(struct loop *l, const uint8_t *was, const uint8_t *now, unsigned frame)
+{
+    enum called by = called(was, frame);
+
+    l->assigned += now[PIL_RECORD_CONFIGURED] != was[PIL_RECORD_CONFIGURED];
+    if (by == OWN_SAD || by == OTHER_SAD)
+        l->addressed += now[PIL_RECORD_LISTENER] != was[PIL_RECORD_LISTENER]
+            || now[PIL_RECORD_TALKER] != was[PIL_RECORD_TALKER];
+}
+
 static int hop(struct loop *l, unsigned device)
 {
-    const uint8_t *poll = l->area + PIL_RECORD_AT(device) + PIL_RECORD_POLL;
-    unsigned was = *poll, frame = frame_at(l->area + PIL_LINK_AT(l->n, device) + PIL_LINK_FRAMES);
-    struct pil_hopped hopped = pil_hop(l->area, l->area_len, device);
+    const uint8_t *now = l->area + PIL_RECORD_AT(device);
+    uint8_t was[PIL_RECORD_LENGTH];
+    unsigned frame = frame_at(l->area + PIL_LINK_AT(l->n, device) + PIL_LINK_FRAMES);
+    struct pil_hopped hopped;
 
+    memcpy(was, now, sizeof was);
+    hopped = pil_hop(l->area, l->area_len, device);
     if (hopped.refusal != PIL_ACCEPTED)
         return 0;
     l->hops++;
-    l->told_anew += *poll != was;
+    l->told_anew += now[PIL_RECORD_POLL] != was[PIL_RECORD_POLL];
     l->made_ones += frame >= FIRST_IDY && (frame & PIL_DATA_BITS) != (hopped.frame & PIL_DATA_BITS);
+    if (is_extended(was))
+        note_extended(l, was, now, frame);
     if (hopped.handed)
         note_handed(l, device, hopped.byte, hopped.end);
     if (hopped.event)
@@ -304,7 +323,7 @@ static void begin(struct loop *l, unsigned n)
 
 static void begin_both_by_set_up(unsigned n)
 {
-    uint8_t items[PIL_POLL_ITEMS_LENGTH(PIL_MOST_DEVICES)];
+    uint8_t items[PIL_EXTENDED_ITEMS_LENGTH(PIL_MOST_DEVICES)];
     size_t length = chance_item_length();
 
     chance_items(items, n, length);
@@ -374,8 +393,17 @@ static unsigned one_history(int by_opening, int old)
 /* What all histories come to. */
 static struct {
     uint64_t opened, old, at_first, longest, puts, reopened, locals, released, restated, hops, handed, clears, triggers;
-    uint64_t told_anew, made_ones;
+    uint64_t told_anew, made_ones, both_variants, assigned, addressed;
 } sums;
+
+static int has_both_variants(const struct loop *l)
+{
+    unsigned extended = 0;
+
+    for (unsigned i = 0; i < l->n; i++)
+        extended += is_extended(l->area + PIL_RECORD_AT(i)) != 0;
+    return extended > 0 && extended < l->n;
+}
 
 static void add_up(void)
 {
@@ -387,6 +415,9 @@ static void add_up(void)
     sums.restated += mixed.restated;
     sums.told_anew += right_round.told_anew;
     sums.made_ones += right_round.made_ones;
+    sums.both_variants += (unsigned)has_both_variants(&mixed);
+    sums.assigned += right_round.assigned;
+    sums.addressed += right_round.addressed;
     sums.hops += mixed.hops;
     sums.handed += mixed.handed;
     sums.clears += mixed.events[PIL_EVENT_CLEAR];
@@ -397,7 +428,8 @@ static int reached_enough(void)
 {
     return sums.opened >= LEAST && sums.old >= LEAST && sums.at_first >= LEAST && sums.longest >= LEAST_LONGEST
         && sums.reopened >= LEAST && sums.released >= LEAST && sums.clears >= LEAST && sums.triggers >= LEAST
-        && sums.restated >= LEAST && sums.told_anew >= LEAST && sums.made_ones >= LEAST;
+        && sums.restated >= LEAST && sums.told_anew >= LEAST && sums.made_ones >= LEAST
+        && sums.both_variants >= LEAST && sums.assigned >= LEAST && sums.addressed >= LEAST;
 }
 
 int order_histories(uint64_t seed, uint64_t histories)
@@ -413,13 +445,14 @@ int order_histories(uint64_t seed, uint64_t histories)
         add_up();
     }
     printf("order: %" PRIu64 " histories equal to their right-round ones, %" PRIu64 " of them from an opening, %" PRIu64
-           " of these of an old save, with %" PRIu64 " frames in the links, %" PRIu64 " of %d devices; %" PRIu64
-           " frames put, %" PRIu64 " times saved and opened, %" PRIu64 " accepted local calls, %" PRIu64
-           " keys among them to local, %" PRIu64 " poll statuses to another, %" PRIu64 " hops, %" PRIu64
-           " bytes handed, %" PRIu64 " clears, %" PRIu64 " triggers, %" PRIu64 " changes of how to answer polls, %"
-           PRIu64 " bits made ones%s\n", histories, sums.opened, sums.old, sums.at_first, sums.longest,
-           PIL_MOST_DEVICES, sums.puts, sums.reopened, sums.locals, sums.released, sums.restated, sums.hops,
-           sums.handed, sums.clears, sums.triggers, sums.told_anew, sums.made_ones,
+           " of these of an old save, with %" PRIu64 " frames in the links, %" PRIu64 " of %d devices, %" PRIu64
+           " of both variants; %" PRIu64 " frames put, %" PRIu64 " times saved and opened, %" PRIu64
+           " accepted local calls, %" PRIu64 " keys among them to local, %" PRIu64 " poll statuses to another, %" PRIu64
+           " hops, %" PRIu64 " bytes handed, %" PRIu64 " clears, %" PRIu64 " triggers, %" PRIu64
+           " changes of how to answer polls, %" PRIu64 " bits made ones, %" PRIu64 " extended devices assigned, %"
+           PRIu64 " addressed%s\n", histories, sums.opened, sums.old, sums.at_first, sums.longest, PIL_MOST_DEVICES,
+           sums.both_variants, sums.puts, sums.reopened, sums.locals, sums.released, sums.restated, sums.hops,
+           sums.handed, sums.clears, sums.triggers, sums.told_anew, sums.made_ones, sums.assigned, sums.addressed,
            reached_enough() ? "" : "  TOO FEW");
     return reached_enough();
 }

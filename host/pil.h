@@ -16,7 +16,7 @@
 /* The version: the first number rises where a bench has to be changed or compiled anew, the second where something is
    added. */
 #define PIL_VERSION_MAJOR 4
-#define PIL_VERSION_MINOR 1
+#define PIL_VERSION_MINOR 2
 #define PIL_VERSION_PATCH 0
 #define PIL_VERSION (PIL_VERSION_MAJOR * 10000 + PIL_VERSION_MINOR * 100 + PIL_VERSION_PATCH)
 
@@ -29,8 +29,8 @@ extern "C" {
 enum {
     PIL_ACCEPTED = 0,   /* no refusal */
     PIL_SHAPE = 1,      /* the area's length is that of no loop or, but at set-up and opening, not that of its byte 0,
-                           as where it was not set up or opened yet; at set-up items of neither 12 nor 13 bytes a
-                           device, at saving an output of another length; at opening an area of another length than
+                           as where it was not set up or opened yet; at set-up items of none of 12, 13 and 14 bytes
+                           a device, at saving an output of another length; at opening an area of another length than
                            the saved loop's */
     PIL_UNSOUND = 2,    /* the area's contents break a rule of "What is sound" below; at set-up an item does, at opening
                            the saved contents do; a load's choice is not 0 or 1; in a save made before version 3 byte
@@ -61,7 +61,8 @@ enum {
 };
 
 /* What a hop reports besides a byte handed. It alters nothing in the record: what a device does when it is cleared or
-   triggered is the bench's part. */
+   triggered is the bench's part. (DCL, SDC and GET are commands like others to an extended device that waits for its
+   SAD.) */
 enum {
     PIL_EVENT_NONE = 0,   /* nothing of the kind */
     PIL_EVENT_CLEAR = 1,  /* the device is cleared: at every DCL, at SDC if it is a listener */
@@ -127,18 +128,19 @@ enum {
 
 /* Limits and lengths, in bytes where not said otherwise. */
 enum {
-    PIL_MOST_DEVICES = 31,     /* devices of the longest loop */
-    PIL_LINK_DEPTH = 4,        /* frames that a link holds */
-    PIL_MOST_ID = 8,           /* longest device ID */
-    PIL_MOST_DATA = 32,        /* longest load */
-    PIL_NO_ADDRESS = 31,       /* the address that no LAD or TAD names */
-    PIL_NO_BIT = 8,            /* the number of the lowest one where all eight data bits are zero */
-    PIL_ITEM_LENGTH = 12,      /* a device's set-up item, */
-    PIL_POLL_ITEM_LENGTH = 13, /* and one that gives further abilities too */
-    PIL_HEADER_LENGTH = 8,     /* the area's header */
-    PIL_RECORD_LENGTH = 64,    /* a device's record */
-    PIL_LINK_LENGTH = 10,      /* a link */
-    PIL_SAVE_HEAD_LENGTH = 6   /* what stands before each body in a save */
+    PIL_MOST_DEVICES = 31,         /* devices of the longest loop */
+    PIL_LINK_DEPTH = 4,            /* frames that a link holds */
+    PIL_MOST_ID = 8,               /* longest device ID */
+    PIL_MOST_DATA = 32,            /* longest load */
+    PIL_NO_ADDRESS = 31,           /* the address that no LAD, TAD or SAD names */
+    PIL_NO_BIT = 8,                /* the number of the lowest one where all eight data bits are zero */
+    PIL_ITEM_LENGTH = 12,          /* a device's set-up item, */
+    PIL_POLL_ITEM_LENGTH = 13,     /* one that gives further abilities too, */
+    PIL_EXTENDED_ITEM_LENGTH = 14, /* and one that gives these and a fixed second address */
+    PIL_HEADER_LENGTH = 8,         /* the area's header */
+    PIL_RECORD_LENGTH = 64,        /* a device's record */
+    PIL_LINK_LENGTH = 10,          /* a link */
+    PIL_SAVE_HEAD_LENGTH = 6       /* what stands before each body in a save */
 };
 
 /* The area of n devices: header, n records, n + 1 links; link i feeds device i and the last link is the tail. */
@@ -153,6 +155,9 @@ enum {
 /* The same of items that give further abilities; in one set-up all items have one length. */
 #define PIL_POLL_ITEMS_LENGTH(n) (PIL_POLL_ITEM_LENGTH * (size_t)(n))
 #define PIL_POLL_ITEM_AT(i) (PIL_POLL_ITEM_LENGTH * (size_t)(i))
+/* And of items that give a fixed second address as well. */
+#define PIL_EXTENDED_ITEMS_LENGTH(n) (PIL_EXTENDED_ITEM_LENGTH * (size_t)(n))
+#define PIL_EXTENDED_ITEM_AT(i) (PIL_EXTENDED_ITEM_LENGTH * (size_t)(i))
 
 /* The save of n devices: header, n records and n + 1 links as they stand in the area, each a body behind a head; but
    in the header's byte 1, zero in the area, a save tells its edition. */
@@ -169,16 +174,20 @@ enum {
     PIL_ABILITY_STATUS = 4,        /* sends its status when asked by SST */
     PIL_ABILITY_ID = 8,            /* sends its device ID when asked by SDI */
     PIL_ABILITY_ACCESSORY = 16,    /* sends its accessory ID when asked by SAI */
-    PIL_ABILITY_AUTO_ADDRESS = 32, /* takes an address from AAD; at AAU its fixed address is its address again */
-    PIL_ABILITY_UNADDRESS = 64,    /* own LAD ends its talking and own TAD its listening; needs listen, and at least one
-                                      of data, status, ID and accessory */
+    PIL_ABILITY_AUTO_ADDRESS = 32, /* takes an address from AAD; at AAU its fixed address is its address again. Not in
+                                      an extended device */
+    PIL_ABILITY_UNADDRESS = 64,    /* own LAD ends its talking and own TAD its listening, in an extended device the SAD
+                                      behind them; needs listen, and at least one of data, status, ID and accessory */
     PIL_ABILITY_SERVICE = 128      /* may ask for service; needs status */
 };
 
-/* Further abilities: a longer item's last byte and a record's byte 7. */
+/* Further abilities: bits of a longer item's thirteenth byte and of a record's byte 7. */
 enum {
-    PIL_MORE_POLL = 1 /* answers parallel polls, once a PPE has told it how. It needs no other ability, but a PPE tells
-                         only listeners */
+    PIL_MORE_POLL = 1,    /* answers parallel polls, once a PPE has told it how. It needs no other ability, but a PPE
+                             tells only listeners */
+    PIL_MORE_EXTENDED = 2 /* is an extended device, with a primary and a second address: its own LAD or TAD and then,
+                             with no other command between, its own SAD make it listener or talker; AES and AEP assign
+                             the two. Not together with auto address. Other devices let SAD, AES and AEP go by */
 };
 
 /* Offsets in a set-up item. */
@@ -188,7 +197,9 @@ enum {
     PIL_ITEM_ACCESSORY = 2, /* accessory ID */
     PIL_ITEM_ID_LENGTH = 3, /* length of the device ID, 0-8 */
     PIL_ITEM_ID = 4,        /* eight bytes: the device ID, zero past its length */
-    PIL_ITEM_MORE = 12      /* further abilities, in an item of 13 bytes; one of 12 has none */
+    PIL_ITEM_MORE = 12,     /* further abilities, in an item of 13 or 14 bytes; one of 12 has none */
+    PIL_ITEM_SECOND = 13    /* fixed second address 0-30, 31 for none, in an item of 14 bytes; a shorter one means 0,
+                               and a device that is not extended has 0 */
 };
 
 /* Offsets in the header. */
@@ -199,31 +210,35 @@ enum {
 
 /* Offsets in a record. */
 enum {
-    PIL_RECORD_ABILITIES = 0,    /* abilities */
-    PIL_RECORD_FIXED = 1,        /* fixed address 0-30, 31 for none */
-    PIL_RECORD_ADDRESS = 2,      /* address now, 0-31 */
-    PIL_RECORD_CONFIGURED = 3,   /* 1 if the address was given by AAD, else 0 */
-    PIL_RECORD_LISTENER = 4,     /* 1 if listener, else 0 */
-    PIL_RECORD_TALKER = 5,       /* talker state */
-    PIL_RECORD_SERVICE = 6,      /* service state */
-    PIL_RECORD_MORE = 7,         /* further abilities, 0 or 1 */
-    PIL_RECORD_ZERO = 7,         /* its name before 4.1, when it was zero */
-    PIL_RECORD_NRD = 8,          /* 1 if NRD was seen while sending, else 0 */
-    PIL_RECORD_STATUS = 9,       /* status byte */
-    PIL_RECORD_ACCESSORY = 10,   /* accessory ID */
-    PIL_RECORD_ID_LENGTH = 11,   /* length of the device ID, 0-8 */
-    PIL_RECORD_DATA_LENGTH = 12, /* length of the data, 0-32 */
-    PIL_RECORD_SENT = 13,        /* bytes of the data already sent, a damaged one among them */
-    PIL_RECORD_LAST = 14,        /* while sending, the reply's last byte as the frame sent: two bytes, little-endian */
-    PIL_RECORD_REPLY_SENT = 16,  /* bytes of a status or ID reply already sent */
-    PIL_RECORD_REMOTE = 17,      /* remote and local, 0-3 */
-    PIL_RECORD_ENABLED = 18,     /* 1 if remote control is enabled, by REN and till NRE, else 0 */
-    PIL_RECORD_END = 19,         /* how the last byte of the data goes out: 0 plain, 1 END */
-    PIL_RECORD_ZEROS = 20,       /* two zero bytes */
-    PIL_RECORD_POLL = 22,        /* how it answers parallel polls: 0 not at all, 16-31 as a PPE told it */
-    PIL_RECORD_POLL_STATUS = 23, /* poll status: 1 for yes, 0 for no */
-    PIL_RECORD_ID = 24,          /* eight bytes: the device ID, zero past its length */
-    PIL_RECORD_DATA = 32         /* thirty-two bytes: the data, zero past its length */
+    PIL_RECORD_ABILITIES = 0,     /* abilities */
+    PIL_RECORD_FIXED = 1,         /* fixed address 0-30, 31 for none */
+    PIL_RECORD_ADDRESS = 2,       /* address now, 0-31 */
+    PIL_RECORD_CONFIGURED = 3,    /* assignment state: whether AAD, or AES and AEP, gave it its address */
+    PIL_RECORD_LISTENER = 4,      /* 1 if listener, else 0 */
+    PIL_RECORD_TALKER = 5,        /* talker state */
+    PIL_RECORD_SERVICE = 6,       /* service state */
+    PIL_RECORD_MORE = 7,          /* further abilities, 0-3 */
+    PIL_RECORD_ZERO = 7,          /* its name before 4.1, when it was zero */
+    PIL_RECORD_NRD = 8,           /* 1 if NRD was seen while sending, else 0 */
+    PIL_RECORD_STATUS = 9,        /* status byte */
+    PIL_RECORD_ACCESSORY = 10,    /* accessory ID */
+    PIL_RECORD_ID_LENGTH = 11,    /* length of the device ID, 0-8 */
+    PIL_RECORD_DATA_LENGTH = 12,  /* length of the data, 0-32 */
+    PIL_RECORD_SENT = 13,         /* bytes of the data already sent, a damaged one among them */
+    PIL_RECORD_LAST = 14,         /* while sending, the reply's last byte as the frame sent: two bytes, little-endian */
+    PIL_RECORD_REPLY_SENT = 16,   /* bytes of a status or ID reply already sent */
+    PIL_RECORD_REMOTE = 17,       /* remote and local, 0-3 */
+    PIL_RECORD_ENABLED = 18,      /* 1 if remote control is enabled, by REN and till NRE, else 0 */
+    PIL_RECORD_END = 19,          /* how the last byte of the data goes out: 0 plain, 1 END */
+    PIL_RECORD_FIXED_SECOND = 20, /* of an extended device: fixed second address 0-30, 31 for none, in the low five
+                                     bits, and its listen primary received or not. Zero in any other */
+    PIL_RECORD_SECOND = 21,       /* of an extended device: second address now, 0-31, in the low five bits, and its
+                                     talk primary received or not. Zero in any other */
+    PIL_RECORD_ZEROS = 20,        /* name of these two before 4.2, when they were zero */
+    PIL_RECORD_POLL = 22,         /* how it answers parallel polls: 0 not at all, 16-31 as a PPE told it */
+    PIL_RECORD_POLL_STATUS = 23,  /* poll status: 1 for yes, 0 for no */
+    PIL_RECORD_ID = 24,           /* eight bytes: the device ID, zero past its length */
+    PIL_RECORD_DATA = 32          /* thirty-two bytes: the data, zero past its length */
 };
 
 /* Offsets in a link. */
@@ -252,6 +267,21 @@ enum {
     PIL_SAVED_HEADER = 1, /* the area's header, once and first */
     PIL_SAVED_RECORD = 2, /* then each device's record, in order */
     PIL_SAVED_LINK = 3    /* then each link, in order */
+};
+
+/* Assignment states: a record's byte 3. AAU leads back to the first of them. */
+enum {
+    PIL_UNCONFIGURED = 0, /* at its fixed address or addresses */
+    PIL_CONFIGURED = 1,   /* at the address that AAD gave it, or at the two that AES and AEP gave it */
+    PIL_HALF_ASSIGNED = 2 /* of an extended device alone: AES gave it its second address, and it waits for AEP. At 31,
+                             which no AES gives, it would wait for AAU */
+};
+
+/* Parts of a record's bytes 20 and 21, where the device is extended. */
+enum {
+    PIL_SECOND_ADDRESS = 31,  /* mask: a second address, fixed in byte 20, now in byte 21 */
+    PIL_PRIMARY_RECEIVED = 32 /* set since its own LAD (in byte 20) or own TAD (in byte 21), with the ability for it,
+                                 till a command that is neither that one again nor its own SAD */
 };
 
 /* Talker states: a record's byte 5. */
@@ -301,7 +331,10 @@ enum {
      place of a link is not zero;
    - a link holds a frame over 2,047, or a last frame is over 1,023;
    - service request is there without status; unaddress without listen, or with none of data, status, ID, accessory;
-   - a device is not configured and its address is not the fixed one; or is configured without auto address, or at 31;
+   - a device is not configured and its address is not the fixed one; or is configured at 31 or, if it is not extended,
+     without auto address. Both addresses of an extended one count here, and half assigned it may have any;
+   - auto address is there in an extended device; a device that is not extended is half assigned, or has a byte 20 or 21
+     that is not zero;
    - a listener cannot listen, a device that asks or was polled cannot ask for service, one that sends data, status,
      ID or accessory ID cannot send that, or talker state 1 stands with none of data, status, ID, accessory;
    - there is data without the ability for it; more is sent than there is; or data is being sent and none is sent yet;
@@ -310,13 +343,15 @@ enum {
    - NRD is noted, or a last frame kept, outside the talker states 2 to 5;
    - how to answer parallel polls, or a poll status of 1, is kept without parallel poll.
    Either choice for the last byte is sound in every record, also where there is no data or no ability for it; and so is
-   every state of remote and local, with the enable flag 0 or 1 and whatever the abilities.
+   every state of remote and local, with the enable flag 0 or 1 and whatever the abilities; and, in an extended device,
+   either primary received or both, whatever the abilities.
    So damage that breaks a rule gives 2, and any change of byte 0 gives 1: no other count of devices fits the area's
    length. Damage that leaves a sound area is not seen. A record is judged by itself, so that one copied from another
    sound area may take a device's place (example.c exchanges a meter so).
    A set-up item gives 2 where the record that it would become is not sound: a fixed address over 31, an ID length over
-   8, an ID that is not zero past its length, service request or unaddress without what they need, or a thirteenth byte
-   over 1. */
+   8, an ID that is not zero past its length, service request or unaddress without what they need, a thirteenth byte
+   over 3, an extended device with auto address, or a fourteenth byte over 31 or, in a device that is not extended, over
+   0. */
 
 /* What a hop answers. */
 struct pil_hopped {
@@ -378,8 +413,9 @@ struct pil_encoded {
    is not sound is refused, what is sound is believed. */
 
 /* Writes the power-on loop of the items' devices into the area, whatever that held. The area's length says how many
-   devices there are, PIL_AREA_LENGTH(n) for n, and there are n items, all of PIL_ITEM_LENGTH bytes or all of
-   PIL_POLL_ITEM_LENGTH. Gives 1, 2. */
+   devices there are, PIL_AREA_LENGTH(n) for n, and there are n items, all of PIL_ITEM_LENGTH bytes, all of
+   PIL_POLL_ITEM_LENGTH or all of PIL_EXTENDED_ITEM_LENGTH; in each of these a device that needs less has zeros for the
+   rest. Gives 1, 2. */
 uint8_t pil_set_up(uint8_t *area, size_t area_len, const uint8_t *items, size_t items_len);
 /* Puts a frame of any kind into link 0, which feeds device 0. Gives 1, 2, 4, 6. */
 uint8_t pil_put(uint8_t *area, size_t area_len, uint64_t frame);
@@ -390,8 +426,9 @@ struct pil_taken pil_take(uint8_t *area, size_t area_len);
 /* Gives the device new data to send, none of it sent yet; with no bytes the device has nothing to send. The choice end
    says how the last byte goes out, PIL_LAST_PLAIN or PIL_LAST_END, and is kept in the record, with no bytes too; any
    other number gives 2. Refused while it sends data: its talk has to end first (by ETO or ETE, UNT, IFC, any TAD or,
-   with unaddress, its own LAD). Before version 3 there was no choice, and the last byte was an END: a bench of that
-   time calls pil_load_end. Gives 1, 2, 3, 7, 8, 9. */
+   with unaddress, its own LAD; in an extended device not by its own TAD or LAD but by the SAD behind it). Before
+   version 3 there was no choice, and the last byte was an END: a bench of that time calls pil_load_end. Gives 1, 2, 3,
+   7, 8, 9. */
 uint8_t pil_load(uint8_t *area, size_t area_len, uint64_t device, const uint8_t *bytes, size_t bytes_len, uint64_t end);
 /* pil_load with PIL_LAST_END, as for a printer that waits for the end bit. Gives 1, 2, 3, 7, 8, 9. */
 uint8_t pil_load_end(uint8_t *area, size_t area_len, uint64_t device, const uint8_t *bytes, size_t bytes_len);
@@ -422,8 +459,9 @@ struct pil_owing pil_owed(const uint8_t *area, size_t area_len);
 /* Writes the loop into the output as its save, over whatever that held, and leaves the area as it was. The output's
    length is PIL_SAVE_LENGTH(n) for n devices, no more and no less; any other gives 1, where the area is unsound too. A
    sound area has one save, of the edition now, and no other has the same. A libpil before version 3 refuses to open a
-   save of this edition, with 2, version 3 one with a device that is enabled or not PIL_LOCAL, and any before 4.1 one
-   with a device that has further abilities. Refused, pil_save leaves the output as it was. Gives 1, 2. */
+   save of this edition, with 2, version 3 one with a device that is enabled or not PIL_LOCAL, any before 4.1 one with a
+   device that has further abilities, and 4.1 one with an extended device. Refused, pil_save leaves the output as it
+   was. Gives 1, 2. */
 uint8_t pil_save(const uint8_t *area, size_t area_len, uint8_t *save, size_t save_len);
 /* Writes the saved loop into the area, whatever that held: every byte of it is then that of the area saved, and the
    frames in its links go on from where they were. The area's length is PIL_AREA_LENGTH(n) for the saved number of

@@ -18,7 +18,7 @@ static const uint8_t made_one[2][2] = {{1, 0}, {0, 1}};
 
 enum polled polled(const uint8_t *record)
 {
-    if (record[PIL_RECORD_MORE] == 0)
+    if (record[PIL_RECORD_MORE] % 2 == 0)
         return UNABLE;
     return (enum polled)((record[PIL_RECORD_POLL] ? TOLD : UNTOLD) + record[PIL_RECORD_POLL_STATUS]);
 }

@@ -1,6 +1,6 @@
-/* Puts loops away in a file and opens them again, opens old saves, tries all of bytes 7, 17, 18, 20 to 23 and what is
-   no save, through libpil.a as a bench calls it. Use: saves FILE OLD; FILE is written and removed, OLD is old_save.bin.
-   Prints a line of counts; exit 1: a difference, 3: wrong use. */
+/* Puts loops away in a file and opens them again, opens old saves, tries all of bytes 3, 7, 17, 18, 20 to 23 and what
+   is no save, through libpil.a as a bench calls it. Use: saves FILE OLD; FILE is written and removed, OLD is
+   old_save.bin. Prints a line of counts; exit 1: a difference, 3: wrong use. */
 #include "pil.h"
 
 #include <stdio.h>
@@ -17,8 +17,9 @@ enum {
     FLAGS = 2,          /* and so many of byte 18 */
     NOT_SOUND = 2 * (OTHER_VALUES + 1) - STATES - FLAGS, /* the others of both bytes */
     PPES = 16,          /* ways to answer polls, beside none */
-    POLLED = 1 + 1 + 1 + (1 + PPES) + FLAGS, /* sound values of bytes 7, 20, 21, 22 and 23 where a device is told, */
-    UNPOLLED = FLAGS + 1 + 1 + 1 + 1         /* and where it cannot be polled */
+    ADDRESSES = 32,     /* second addresses, each with its primary received or not */
+    PRIMARIES = 4,      /* none received, one, the other, both */
+    ASSIGNED = 3        /* assignment states */
 };
 
 static unsigned devices;
@@ -28,7 +29,7 @@ static uint8_t save[SAVE_ROOM];
 static size_t area_len, save_len;
 static struct { /* what was tried */
     unsigned long frames, bytes, cuts, longer, heads, counts, editions, chosen, choices, standings, not_sound;
-    unsigned long polls, no_polls; /* bytes 7 and 20 to 23 opened, and refused */
+    unsigned long further, no_further; /* bytes 3, 7 and 20 to 23 opened, and refused */
 } done;
 
 static void must(int holds, const char *what, size_t place)
@@ -45,17 +46,35 @@ static int pollable(unsigned device)
     return device % 2 == 0;
 }
 
-/* Devices at power-on with every ability but, in every second one, the poll; the fifth of eight can do nothing else. */
+/* Every third device is extended, the second among them. */
+static int extended(unsigned device)
+{
+    return device % 3 == 1;
+}
+
+/* All abilities that there can be, and none in the fifth of eight devices. */
+static unsigned abilities_of(unsigned device)
+{
+    if (device % 8 == 4)
+        return 0;
+    return extended(device) ? 0xff - PIL_ABILITY_AUTO_ADDRESS : 0xff;
+}
+
+/* Devices at power-on. */
 static void set_up(uint8_t *loop)
 {
-    uint8_t items[PIL_POLL_ITEMS_LENGTH(PIL_MOST_DEVICES)] = {0};
+    uint8_t items[PIL_EXTENDED_ITEMS_LENGTH(PIL_MOST_DEVICES)] = {0};
 
     for (unsigned i = 0; i < devices; i++) {
-        items[PIL_POLL_ITEM_AT(i) + PIL_ITEM_ABILITIES] = i % 8 == 4 ? 0 : 0xff;
-        items[PIL_POLL_ITEM_AT(i) + PIL_ITEM_FIXED] = (uint8_t)i;
-        items[PIL_POLL_ITEM_AT(i) + PIL_ITEM_MORE] = pollable(i) ? PIL_MORE_POLL : 0;
+        uint8_t *item = items + PIL_EXTENDED_ITEM_AT(i);
+
+        item[PIL_ITEM_ABILITIES] = (uint8_t)abilities_of(i);
+        item[PIL_ITEM_FIXED] = (uint8_t)i;
+        item[PIL_ITEM_MORE] = (uint8_t)((pollable(i) ? PIL_MORE_POLL : 0) | (extended(i) ? PIL_MORE_EXTENDED : 0));
+        item[PIL_ITEM_SECOND] = (uint8_t)(extended(i) ? i : 0);
     }
-    must(pil_set_up(loop, area_len, items, PIL_POLL_ITEMS_LENGTH(devices)) == PIL_ACCEPTED, "the set-up is refused", 0);
+    must(pil_set_up(loop, area_len, items, PIL_EXTENDED_ITEMS_LENGTH(devices)) == PIL_ACCEPTED, "the set-up is refused",
+         0);
 }
 
 static void load(unsigned device, uint64_t end)
@@ -82,6 +101,25 @@ static void set_polls(void)
         }
 }
 
+/* The assignment states in turn, every three extended devices with other primaries received, the first with both. The
+   half assigned ones have no address, and in turn a second one and none. */
+static void set_seconds(void)
+{
+    static const uint8_t addresses[ASSIGNED] = {0, 30, PIL_NO_ADDRESS}, seconds[ASSIGNED] = {0, 0, PIL_NO_ADDRESS};
+
+    for (unsigned i = 1; i < devices; i += 3) {
+        uint8_t *record = area + PIL_RECORD_AT(i);
+        unsigned state = i / 3 % ASSIGNED, primaries = PRIMARIES - 1 - i / 9 % PRIMARIES;
+
+        record[PIL_RECORD_CONFIGURED] = (uint8_t)state;
+        record[PIL_RECORD_ADDRESS] = state == PIL_UNCONFIGURED ? (uint8_t)i : addresses[state];
+        record[PIL_RECORD_SECOND] = state == PIL_UNCONFIGURED ? (uint8_t)i : i % 2 ? seconds[state] : 5;
+        record[PIL_RECORD_FIXED_SECOND] = (uint8_t)i;
+        record[PIL_RECORD_FIXED_SECOND] += (uint8_t)(primaries % 2 * PIL_PRIMARY_RECEIVED);
+        record[PIL_RECORD_SECOND] += (uint8_t)(primaries / 2 * PIL_PRIMARY_RECEIVED);
+    }
+}
+
 /* Puts frames and lets every device hop, till each link holds some and the tail is full. The last device has data that
    ends plain, the first, which talks, data that ends in an END. */
 static void make_loop(void)
@@ -100,6 +138,7 @@ static void make_loop(void)
     must(pil_put(area, area_len, frames[put % 7]) == PIL_ACCEPTED, "a put is refused", 0);
     set_remote();
     set_polls();
+    set_seconds();
     for (unsigned link = 0; link <= devices; link++) {
         size_t count = PIL_LINK_AT(devices, link) + PIL_LINK_COUNT;
 
@@ -273,47 +312,89 @@ static void remote_bytes(void)
     }
 }
 
-/* Parallel poll (02, f). */
+/* Parallel poll and extended addresses (02, f and i). */
 
 static int poll_sound(const uint8_t *record)
 {
     unsigned told = record[PIL_RECORD_POLL], status = record[PIL_RECORD_POLL_STATUS];
 
-    if (record[PIL_RECORD_ZEROS] != 0 || record[PIL_RECORD_ZEROS + 1] != 0)
-        return 0;
-    if (record[PIL_RECORD_MORE] == 0)
+    if (record[PIL_RECORD_MORE] % 2 == 0)
         return told == 0 && status == 0;
-    return record[PIL_RECORD_MORE] == 1 && (told == 0 || (told >= 16 && told < 16 + PPES)) && status < FLAGS;
+    return (told == 0 || (told >= 16 && told < 16 + PPES)) && status < FLAGS;
+}
+
+static int simple_sound(const uint8_t *record)
+{
+    if (record[PIL_RECORD_FIXED_SECOND] != 0 || record[PIL_RECORD_SECOND] != 0)
+        return 0;
+    if (record[PIL_RECORD_CONFIGURED] == PIL_CONFIGURED)
+        return record[PIL_RECORD_ABILITIES] & PIL_ABILITY_AUTO_ADDRESS && record[PIL_RECORD_ADDRESS] != PIL_NO_ADDRESS;
+    return record[PIL_RECORD_CONFIGURED] == 0 && record[PIL_RECORD_ADDRESS] == record[PIL_RECORD_FIXED];
+}
+
+static int extended_sound(const uint8_t *record)
+{
+    unsigned fixed = record[PIL_RECORD_FIXED_SECOND], second = record[PIL_RECORD_SECOND];
+
+    if (record[PIL_RECORD_ABILITIES] & PIL_ABILITY_AUTO_ADDRESS || fixed >= 2 * ADDRESSES || second >= 2 * ADDRESSES)
+        return 0;
+    switch (record[PIL_RECORD_CONFIGURED]) {
+    case PIL_UNCONFIGURED:
+        return record[PIL_RECORD_ADDRESS] == record[PIL_RECORD_FIXED] && fixed % ADDRESSES == second % ADDRESSES;
+    case PIL_CONFIGURED: return record[PIL_RECORD_ADDRESS] < 31 && second % ADDRESSES < 31;
+    default: return record[PIL_RECORD_CONFIGURED] == PIL_HALF_ASSIGNED;
+    }
+}
+
+static int further_sound(const uint8_t *record)
+{
+    if (record[PIL_RECORD_MORE] > 3 || !poll_sound(record))
+        return 0;
+    return record[PIL_RECORD_MORE] / 2 ? extended_sound(record) : simple_sound(record);
 }
 
 /* Every value of one byte of the record, the others as they are. */
-static void poll_values(uint8_t *record, size_t at)
+static void further_values(uint8_t *record, size_t at)
 {
     size_t place = (size_t)(record + at - tried);
 
     for (unsigned value = 0; value <= UINT8_MAX; value++) {
         record[at] = (uint8_t)value;
-        if (poll_sound(record)) {
-            opened_as_tried(place, "a byte 7 or 20 to 23 is refused");
-            done.polls++;
+        if (further_sound(record)) {
+            opened_as_tried(place, "a byte 3, 7 or 20 to 23 is refused");
+            done.further++;
         } else {
-            refused_with(PIL_UNSOUND, save_len, place, "a save with a byte 7 or 20 to 23 not sound is not refused "
+            refused_with(PIL_UNSOUND, save_len, place, "a save with a byte 3, 7 or 20 to 23 not sound is not refused "
                          "with 2");
-            done.no_polls++;
+            done.no_further++;
         }
     }
     record[at] = save[place];
 }
 
-static void poll_bytes(void)
-{
-    static const uint8_t places[] = {PIL_RECORD_MORE, PIL_RECORD_ZEROS, PIL_RECORD_ZEROS + 1, PIL_RECORD_POLL,
-                                     PIL_RECORD_POLL_STATUS};
+static const uint8_t further_places[] = {PIL_RECORD_CONFIGURED, PIL_RECORD_MORE, PIL_RECORD_FIXED_SECOND,
+                                         PIL_RECORD_SECOND, PIL_RECORD_POLL, PIL_RECORD_POLL_STATUS};
 
+static void further_bytes(void)
+{
     memcpy(tried, save, sizeof tried);
     for (unsigned i = 0; i < devices; i++)
-        for (unsigned k = 0; k < sizeof places; k++)
-            poll_values(tried + PIL_SAVE_RECORD_AT(i) + PIL_SAVE_HEAD_LENGTH, places[k]);
+        for (unsigned k = 0; k < sizeof further_places; k++)
+            further_values(tried + PIL_SAVE_RECORD_AT(i) + PIL_SAVE_HEAD_LENGTH, further_places[k]);
+}
+
+/* How many of these values must be sound in a device, byte by byte. */
+static unsigned further_due(unsigned device)
+{
+    static const uint8_t of_3[ASSIGNED] = {3, 2, 1}, of_20[ASSIGNED] = {2, 64, 64}, of_21[ASSIGNED] = {2, 62, 64};
+    const uint8_t *record = area + PIL_RECORD_AT(device);
+    unsigned state = device / 3 % ASSIGNED, polls = pollable(device) ? 1 + PPES + FLAGS : 1 + 1;
+    int automatic = (abilities_of(device) & PIL_ABILITY_AUTO_ADDRESS) != 0;
+
+    if (extended(device))
+        return of_3[state] + (pollable(device) ? 1 : 2) + of_20[state] + of_21[state] + polls;
+    return (unsigned)automatic + (record[PIL_RECORD_ADDRESS] == record[PIL_RECORD_FIXED])
+        + (pollable(device) ? 1 : 2) * (automatic ? 1 : 2) + 1 + 1 + polls;
 }
 
 /* Old saves (02, h). */
@@ -422,7 +503,7 @@ static void old_file(const char *path)
 int main(int argc, char **argv)
 {
     static const unsigned all[] = {1, 2, 7, PIL_MOST_DEVICES};
-    unsigned long bytes = 0, heads = 0, records = 0, polls = 0, chosen = OLD_WITH_DATA;
+    unsigned long bytes = 0, heads = 0, records = 0, further = 0, chosen = OLD_WITH_DATA;
     const unsigned long loops = sizeof all / sizeof *all;
 
     if (argc != 3) {
@@ -435,25 +516,27 @@ int main(int argc, char **argv)
         through_file(argv[1]);
         no_saves();
         remote_bytes();
-        poll_bytes();
+        further_bytes();
         old_save();
         bytes += 30 + 86 * devices;
         heads += 2 * devices + 2;
         records += devices;
-        polls += (devices + 1) / 2 * POLLED + devices / 2 * UNPOLLED;
+        for (unsigned device = 0; device < devices; device++)
+            further += further_due(device);
         chosen += devices > 1 ? 2 : 1; /* the first device and the last have data */
     }
     old_file(argv[2]);
     must(done.bytes == bytes && done.cuts == bytes && done.longer == loops && done.counts == loops * OTHER_VALUES
          && done.heads == heads * PIL_SAVE_HEAD_LENGTH * OTHER_VALUES && done.editions == loops * NO_EDITIONS
          && done.choices == records && done.chosen == chosen && done.standings == records * STATES * FLAGS
-         && done.not_sound == records * NOT_SOUND && done.polls == polls
-         && done.polls + done.no_polls == records * 5 * (OTHER_VALUES + 1), "not all was tried", 0);
+         && done.not_sound == records * NOT_SOUND && done.further == further
+         && done.further + done.no_further == records * sizeof further_places * (OTHER_VALUES + 1),
+         "not all was tried", 0);
     printf("saves: %lu loops with %lu frames through a file of %lu bytes in all; refused with 10: %lu cut, %lu longer, "
            "%lu with another byte in a head, %lu with another count, %lu of no edition; %lu old saves opened and one "
            "from a file, END chosen for %lu devices in all; refused with 2: %lu old saves with a byte 19, %lu with a "
-           "byte 17 or 18 out of range, %lu with a byte 7 or 20 to 23 so; %lu and %lu opened with these in range\n",
+           "byte 17 or 18 out of range, %lu with a byte 3, 7 or 20 to 23 so; %lu and %lu opened with these in range\n",
            loops, done.frames, done.bytes, done.cuts, done.longer, done.heads, done.counts, done.editions, loops,
-           done.chosen, done.choices, done.not_sound, done.no_polls, done.standings, done.polls);
+           done.chosen, done.choices, done.not_sound, done.no_further, done.standings, done.further);
     return 0;
 }

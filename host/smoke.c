@@ -1,7 +1,9 @@
 /* Runs the rows of 01 and 02, 01's cases at the limits, the choices of a load, remote and local, clears and triggers,
-   parallel polls, hops owed, a saved loop, as it is saved now and as it was before, and codes of 001's message table
-   through libpil.a, called as a bench calls it. Prints each check that fails and exits 1, or how many held. */
+   parallel polls, extended addresses, hops owed, a saved loop, as it is saved now and as it was before, and codes of
+   001's message table through libpil.a, called as a bench calls it. Prints each check that fails and exits 1, or how
+   many held. */
 #include "pil.h"
+#include "smoke.h"
 
 #include <stdio.h>
 #include <string.h>
@@ -10,7 +12,7 @@ static uint8_t area[PIL_AREA_LENGTH(1)];
 static uint8_t *const record = area + PIL_RECORD_AT(0);
 static int held, failed;
 
-static void check(const char *what, unsigned long got, unsigned long expected)
+void check(const char *what, unsigned long got, unsigned long expected)
 {
     if (got == expected) {
         held++;
@@ -441,10 +443,8 @@ static void judged(const char *what, unsigned more, unsigned place, unsigned val
 static void poll_soundness(void)
 {
     judged("no further abilities", 1, PIL_RECORD_MORE, 0, PIL_EMPTY);
-    judged("further abilities 2", 1, PIL_RECORD_MORE, 2, PIL_UNSOUND);
-    judged("further abilities 3", 1, PIL_RECORD_MORE, 3, PIL_UNSOUND);
-    judged("byte 20", 1, PIL_RECORD_ZEROS, 1, PIL_UNSOUND);
-    judged("byte 21", 1, PIL_RECORD_ZEROS + 1, 1, PIL_UNSOUND);
+    judged("further abilities 4", 1, PIL_RECORD_MORE, 4, PIL_UNSOUND);
+    judged("further abilities 255", 1, PIL_RECORD_MORE, 255, PIL_UNSOUND);
     judged("told 1", 1, PIL_RECORD_POLL, 1, PIL_UNSOUND);
     judged("told 15", 1, PIL_RECORD_POLL, 15, PIL_UNSOUND);
     judged("told 16", 1, PIL_RECORD_POLL, 16, PIL_EMPTY);
@@ -463,11 +463,11 @@ static void poll_soundness(void)
 /* The area's length says how many devices there are: 156 bytes are 12 items of 13 bytes, and 13 items of 12. */
 static void item_cases(void)
 {
-    static uint8_t loop[PIL_AREA_LENGTH(13)];
-    uint8_t items[14 * 13] = {0};
+    static uint8_t loop[PIL_AREA_LENGTH(14)];
+    uint8_t items[15 * 14] = {0};
 
     for (unsigned length = 0; length <= 40; length++) {
-        int one = length == 12 || length == 13, two = length == 24 || length == 26;
+        int one = length >= 12 && length <= 14, two = length == 24 || length == 26 || length == 28;
 
         check("items of one", pil_set_up(loop, PIL_AREA_LENGTH(1), items, length), one ? PIL_ACCEPTED : PIL_SHAPE);
         check("items of two", pil_set_up(loop, PIL_AREA_LENGTH(2), items, length), two ? PIL_ACCEPTED : PIL_SHAPE);
@@ -476,13 +476,16 @@ static void item_cases(void)
     check("12 items of 13", pil_set_up(loop, PIL_AREA_LENGTH(12), items, 156), PIL_ACCEPTED);
     check("12 items of 13, the last", loop[PIL_RECORD_AT(11) + PIL_RECORD_MORE], 1);
     check("12 items of 13, the first", loop[PIL_RECORD_AT(0) + PIL_RECORD_MORE], 0);
-    items[PIL_POLL_ITEM_AT(11) + PIL_ITEM_MORE] = 2;
-    check("12 items of 13, a last byte of 2", pil_set_up(loop, PIL_AREA_LENGTH(12), items, 156), PIL_UNSOUND);
+    items[PIL_POLL_ITEM_AT(11) + PIL_ITEM_MORE] = 4;
+    check("12 items of 13, a last byte of 4", pil_set_up(loop, PIL_AREA_LENGTH(12), items, 156), PIL_UNSOUND);
     check("13 items of 12, ID not zero", pil_set_up(loop, PIL_AREA_LENGTH(13), items, 156), PIL_UNSOUND);
     items[PIL_POLL_ITEM_AT(11) + PIL_ITEM_MORE] = 0;
     check("13 items of 12", pil_set_up(loop, PIL_AREA_LENGTH(13), items, 156), PIL_ACCEPTED);
     check("13 items of 12, the last", loop[PIL_RECORD_AT(12) + PIL_RECORD_MORE], 0);
-    check("13 items of 14", pil_set_up(loop, PIL_AREA_LENGTH(13), items, 14 * 13), PIL_SHAPE);
+    check("14 items of 13", pil_set_up(loop, PIL_AREA_LENGTH(14), items, 14 * 13), PIL_ACCEPTED);
+    check("13 items of 14", pil_set_up(loop, PIL_AREA_LENGTH(13), items, 14 * 13), PIL_ACCEPTED);
+    check("13 items of 14 and a byte", pil_set_up(loop, PIL_AREA_LENGTH(13), items, 14 * 13 + 1), PIL_SHAPE);
+    check("14 items of 15", pil_set_up(loop, PIL_AREA_LENGTH(14), items, 15 * 14), PIL_SHAPE);
     items[PIL_ITEM_MORE] = 255;
     check("a last byte of 255", pil_set_up(loop, PIL_AREA_LENGTH(1), items, 13), PIL_UNSOUND);
 }
@@ -681,7 +684,10 @@ static void open_cases(void)
     check("open, choice 2", opens_with(14 + 6 + 19, 2, sizeof area, 116), PIL_UNSOUND);
     check("open, state 4 of remote and local", opens_with(14 + 6 + 17, 4, sizeof area, 116), PIL_UNSOUND);
     check("open, enabled 2", opens_with(14 + 6 + 18, 2, sizeof area, 116), PIL_UNSOUND);
-    check("open, further abilities 2", opens_with(14 + 6 + 7, 2, sizeof area, 116), PIL_UNSOUND);
+    check("open, further abilities 4", opens_with(14 + 6 + 7, 4, sizeof area, 116), PIL_UNSOUND);
+    check("open, extended with auto address", opens_with(14 + 6 + 7, 2, sizeof area, 116), PIL_UNSOUND);
+    check("open, half assigned and simple", opens_with(14 + 6 + 3, 2, sizeof area, 116), PIL_UNSOUND);
+    check("open, a second address of a simple device", opens_with(14 + 6 + 21, 1, sizeof area, 116), PIL_UNSOUND);
     check("open, told without the ability", opens_with(14 + 6 + 22, 16, sizeof area, 116), PIL_UNSOUND);
     check("open, poll status without the ability", opens_with(14 + 6 + 23, 1, sizeof area, 116), PIL_UNSOUND);
     check("open, an old save with a byte 19", opens_with(PIL_SAVE_EDITION, 0, sizeof area, 116), PIL_UNSOUND);
@@ -787,6 +793,7 @@ int main(void)
     item_cases();
     rack_cases();
     count_cases();
+    extended_cases();
     limits();
     owed_cases();
     save_cases();

@@ -144,13 +144,14 @@ static size_t contents_place(unsigned devices)
     size_t link = PIL_SAVE_LINK_AT(devices, below(devices + 1)) + PIL_SAVE_HEAD_LENGTH;
     size_t zeros = PIL_SAVE_EDITION + 1;
 
-    switch (below(8)) {
+    switch (below(9)) {
     case 0: return zeros + below((unsigned)(PIL_SAVE_HEAD_LENGTH + PIL_HEADER_LENGTH - zeros));
     case 1: return link + below(PIL_LINK_LENGTH);
     case 2: return record + below(PIL_RECORD_LENGTH);
     case 3: return record + PIL_RECORD_END;
     case 4: return record + (one_in(2) ? PIL_RECORD_REMOTE : PIL_RECORD_ENABLED);
     case 5: return record + (one_in(3) ? PIL_RECORD_MORE : PIL_RECORD_POLL + below(2));
+    case 6: return record + (one_in(3) ? PIL_RECORD_CONFIGURED : PIL_RECORD_FIXED_SECOND + below(2));
     default: return record + below(PIL_RECORD_ID);
     }
 }

@@ -14,6 +14,7 @@ enum {
     ROW = 32,    /* bytes of paint looked for at a time */
     COPY = 16,   /* so many bytes of an ID or data in a row are a copy */
     ADDRESS = 5,
+    SECOND = 7,  /* second address of an extended device */
     PPD = 0x405,
     PPU = 0x415,
     FIRST_PPE = 0x480,
@@ -25,7 +26,7 @@ enum {
 /* What a device has left to send: none, half, or the last byte of its data, which goes out plain or as an END. */
 enum { NONE_LEFT, HALF_LEFT, LAST_LEFT_PLAIN, LAST_LEFT_END, LEFTS };
 
-enum { RECORDS = LOOP_TALKER_STATES * 3 * 2 * LEFTS * 4 * 2 }; /* numbers for make_record */
+enum { RECORDS = LOOP_TALKER_STATES * 3 * 2 * LEFTS * 2 * 4 * 2 }; /* numbers for make_record */
 
 typedef void function(void);
 
@@ -192,6 +193,18 @@ static int leave(uint8_t *r, unsigned left)
     return r[PIL_RECORD_TALKER] == PIL_TALKER_ADDRESSED || r[PIL_RECORD_TALKER] == PIL_TALKER_DATA;
 }
 
+/* An extended device that has received both primaries, and half assigned where it listens. Gives 0 for a frame to which
+   it is like a simple one. */
+static int extend(uint8_t *r, unsigned frame)
+{
+    r[PIL_RECORD_ABILITIES] -= PIL_ABILITY_AUTO_ADDRESS;
+    r[PIL_RECORD_MORE] |= PIL_MORE_EXTENDED;
+    r[PIL_RECORD_FIXED_SECOND] = r[PIL_RECORD_SECOND] = SECOND + PIL_PRIMARY_RECEIVED;
+    if (r[PIL_RECORD_CONFIGURED] && r[PIL_RECORD_LISTENER])
+        r[PIL_RECORD_CONFIGURED] = PIL_HALF_ASSIGNED;
+    return frame >= PIL_C3 && frame < FIRST_IDY;
+}
+
 /* Whether the device answers polls, and how: not at all, or to say a yes or a no by a one. */
 static void make_poll(uint8_t *r, unsigned *number)
 {
@@ -235,7 +248,9 @@ static int make_record(uint8_t *r, unsigned number, unsigned frame)
     full_record(r, ADDRESS, digit(&number, LOOP_TALKER_STATES));
     r[PIL_RECORD_SERVICE] = (uint8_t)digit(&number, PIL_SERVICE_POLLED + 1);
     r[PIL_RECORD_LISTENER] = (uint8_t)digit(&number, 2);
-    return leave(r, digit(&number, LEFTS)) && make_found(r, number, frame);
+    if (!leave(r, digit(&number, LEFTS)) || (digit(&number, 2) && !extend(r, frame)))
+        return 0;
+    return make_found(r, number, frame);
 }
 
 /* Every device has data, for which an opening of the old save chooses END. */

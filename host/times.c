@@ -108,6 +108,7 @@ static const struct work {
     {"drain of a full loop, four hops a device", links_full_of_nuls, 1, drain},
     {"round trip: put, drain, take", idle_loop, 1, round_trip},
     {"drain of four IDYs, every device polled", polled_loop, 1, drain},
+    {"drain of TADs and SADs, extended devices", extended_loop, 1, drain},
     {"soundness: a hop refused with 3", links_full_of_nuls, 1, soundness},
     {"busy loop: hop of one device", busy_loop_to_hop, N, hops},
     {"busy loop: drain, four hops a device, data bytes", busy_loop_to_drain, 1, drain},

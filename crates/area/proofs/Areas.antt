@@ -149,7 +149,7 @@ module _ (a : List ℕ) (small : Bytes a) (h : judgeOf a ≡ 0) where
   records-back : map recordOf (map deviceOf (recordsIn a)) ≡ recordsIn a
   records-back =
       let sh = is-shaped a (judge-zero a h .0) in
-      map-back recordOf deviceOf soundRecord recordSize record-back (countIn a) (drop headerSize a)
+      map-back recordOf deviceOf soundRecord recordSize (λ b l s t. record-back b l s) (countIn a) (drop headerSize a)
       (simp length-drop (omega (arith, sh .long))) (λ i. rw getD-drop (small (headerSize + i)))
       (tests a (judge-zero a h .1) .records)
 

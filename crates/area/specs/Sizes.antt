@@ -1,4 +1,4 @@
--- The sizes of the lent area (01, The lent area) and of set-up items (01, The calls; 02, f), each said once.
+-- The sizes of the lent area (01, The lent area) and of set-up items (01, The calls; 02, f and i), each said once.
 use Prim.Native.Nat.{ℕ, _+_, _*_, _≤_}
 use mathlib.Core.Path.{_≡_}
 use mathlib.Core.List.{List}
@@ -26,12 +26,16 @@ mostDevices = 31
 abbrev pub isCount : ℕ → ℕ → Bool
 isCount limit n = leb 1 n && leb n limit
 
--- bytes of a set-up item, and of one with the further abilities behind (02, f)
+-- bytes of a set-up item, of one with the further abilities behind (02, f), and with the fixed second address behind
+-- them (02, i)
 abbrev pub itemSize : ℕ
 itemSize = 12
 
+abbrev pub pollItemSize : ℕ
+pollItemSize = 13
+
 abbrev pub longItemSize : ℕ
-longItemSize = 13
+longItemSize = 14
 
 -- where record i starts, and link j in an area of n devices
 abbrev pub recordAt : ℕ → ℕ

@@ -7,14 +7,17 @@ ghost use mathlib.Core.Path.{_≡_};
 ghost use Prim.Native.Nat.{_<_};
 ghost use Rattle.area.specs.Sizes.{mostDevices, isCount, areaSize};
 
-// Bytes before the first record, of a link, of a set-up item and of one with the further abilities behind.
+// Bytes before the first record, of a link, of a set-up item, of one with the further abilities behind, and with the
+// fixed second address behind them.
 pub const HEADER_SIZE: usize = 8;
 
 pub const LINK_SIZE: usize = 10;
 
 pub const ITEM_SIZE: usize = 12;
 
-pub const LONG_ITEM_SIZE: usize = 13;
+pub const POLL_ITEM_SIZE: usize = 13;
+
+pub const LONG_ITEM_SIZE: usize = 14;
 
 // The most frames of a link, and the most devices of a loop.
 pub const DEPTH: usize = 4;

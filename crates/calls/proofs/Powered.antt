@@ -1,16 +1,17 @@
 -- Set up: the area is blank, and then holds the first i items' devices and blank ones, till none is blank. An item of
--- 12 bytes is one of 13 with a zero behind it.
+-- fewer bytes is one of 14 with zeros behind it.
 use mathlib.Core.Path.{_≡_, refl, sym, ap, _∙_}
 use mathlib.Core.List.{List, [], _∷_, _++_, append-nil}
-use mathlib.Core.Bool.{Bool, true, false, cond, _||_}
+use mathlib.Core.Bool.{Bool, true, false, cond, _&&_, _||_}
 use mathlib.Core.Logic.{_⊎_, inl, inr, ⊎-elim}
 use Prim.Native.Nat.{ℕ, zero, suc, _+_, _-_, _*_, _≤_, _<_}
 use native.Mathlib.Nat.{not-suc-le-zero, le-of-suc-le-suc, mul-suc, mul-le-mul-left, mul-le-mul-right}
 use native.Mathlib.Omega.{arith}
-use lib.Dec.{eqb}
+use lib.Dec.{eqb, leb}
 use lib.ListN.{length, getD, take, set, replicate, length-map, length-append, length-replicate, List·getD-map}
 use lib.Seq.{length-take-le, take-all}
 use borrow.Author.Tests.{leb-true, eqb-true}
+use Rattle.device.specs.Device.{noAddress}
 use Rattle.device.specs.PowerOn.{powerOn, bytesFrom}
 use Rattle.device.specs.declared.Device.{Device}
 use Rattle.record.specs.Record.{deviceOf}
@@ -18,7 +19,7 @@ use Rattle.record.specs.Sound.{soundDevice, allowed}
 use Rattle.record.specs.Fits.{Bytes, Good}
 use Rattle.record.proofs.Both.{left, right}
 use Rattle.record.proofs.Laws.{power-good, blank-good}
-use Rattle.area.specs.Sizes.{mostDevices, itemSize, longItemSize, areaSize}
+use Rattle.area.specs.Sizes.{mostDevices, itemSize, pollItemSize, longItemSize, areaSize}
 use Rattle.area.specs.Parts.{part, all}
 use Rattle.area.specs.Link.{Frames}
 use Rattle.area.specs.Loop.{Loop, areaOf, size, shape, unsound}
@@ -66,8 +67,8 @@ unfolding powerOn bytesFrom
 padded-powered b = refl
 
 pub padded-allowed : (b : List ℕ) → allowed (bytesFrom 0 longItemSize b) ≡ allowed b
-unfolding allowed
-padded-allowed b = ap soundDevice (padded-powered b)
+unfolding allowed bytesFrom
+padded-allowed b = ap (λ (d : Device). leb (getD b 13 0) noAddress && soundDevice d) (padded-powered b)
 
 -- the loop of n items after i of them
 module _ (n : ℕ) (items : List ℕ) where
@@ -113,36 +114,45 @@ module _ (n : ℕ) (items : List ℕ) where
       Good (powerOn (part (w * i) w items))
   item-good small h i k = rw (item-device i k) (powered-good small h i)
 
--- an item is 12 bytes or 13, and then so are all
-pub width-either : (bytes n : ℕ) → (itemWidth bytes n ≡ itemSize) ⊎ (itemWidth bytes n ≡ longItemSize)
+-- an item is 12, 13 or 14 bytes, and then so are all
+abbrev pub Width : (itemWidth : ℕ) → Type 0
+Width w = (w ≡ itemSize) ⊎ ((w ≡ pollItemSize) ⊎ (w ≡ longItemSize))
+
+pub width-one : (bytes n : ℕ) → Width (itemWidth bytes n)
 unfolding itemWidth
-width-either bytes n = go (eqb bytes (longItemSize * n))
+width-one bytes n = go (eqb bytes (longItemSize * n)) (eqb bytes (pollItemSize * n))
   where
-    go : (b : Bool) → (cond b longItemSize itemSize ≡ itemSize) ⊎ (cond b longItemSize itemSize ≡ longItemSize)
-    go true = inr refl
-    go false = inl refl
+    go : (a b : Bool) → Width (cond a longItemSize (cond b pollItemSize itemSize))
+    go true b = inr (inr refl)
+    go false true = inr (inl refl)
+    go false false = inl refl
 
 pub width-few : (bytes n : ℕ) → itemWidth bytes n ≤ longItemSize
-width-few bytes n = ⊎-elim (λ e. omega arith) (λ e. omega arith) (width-either bytes n)
+width-few bytes n =
+    ⊎-elim (λ e. omega arith) (⊎-elim (λ e. omega arith) (λ e. omega arith)) (width-one bytes n)
 
 pub width-times : (bytes n i : ℕ) → itemWidth bytes n * i ≤ longItemSize * i
 width-times bytes n i = mul-le-mul-right i (width-few bytes n)
 
 pub width-all : (bytes n : ℕ) → isItems bytes n ≡ true → bytes ≡ itemWidth bytes n * n
 unfolding itemWidth isItems
-width-all bytes n h = go (eqb bytes (itemSize * n)) (eqb bytes (longItemSize * n)) refl refl h
+width-all bytes n h =
+    go (eqb bytes (itemSize * n)) (eqb bytes (pollItemSize * n)) (eqb bytes (longItemSize * n)) refl refl refl h
   where
-    go : (a b : Bool) → eqb bytes (itemSize * n) ≡ a → eqb bytes (longItemSize * n) ≡ b → (a || b) ≡ true →
-        bytes ≡ cond b longItemSize itemSize * n
-    go a true e f i = eqb-true bytes (longItemSize * n) f
-    go true false e f i = eqb-true bytes (itemSize * n) e
-    go false false e f i = let z : false ≡ true = i in cc
+    go : (a b c : Bool) → eqb bytes (itemSize * n) ≡ a → eqb bytes (pollItemSize * n) ≡ b →
+        eqb bytes (longItemSize * n) ≡ c → (a || (b || c)) ≡ true →
+        bytes ≡ cond c longItemSize (cond b pollItemSize itemSize) * n
+    go a b true e f g i = eqb-true bytes (longItemSize * n) g
+    go a true false e f g i = eqb-true bytes (pollItemSize * n) f
+    go true false false e f g i = eqb-true bytes (itemSize * n) e
+    go false false false e f g i = let z : false ≡ true = i in cc
 
 -- they are at least 12 bytes each
 pub items-least : (bytes n : ℕ) → isItems bytes n ≡ true → itemSize * n ≤ bytes
 items-least bytes n h =
     let e = width-all bytes n h in
-    ⊎-elim (λ w. omega (arith, rw w at e)) (λ w. omega (arith, rw w at e)) (width-either bytes n)
+    ⊎-elim (λ w. omega (arith, rw w at e)) (⊎-elim (λ w. omega (arith, rw w at e)) (λ w. omega (arith, rw w at e)))
+    (width-one bytes n)
 
 -- item i lies within
 pub item-within : (w i n : ℕ) → i < n → w * i + w ≤ w * n

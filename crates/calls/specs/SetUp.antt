@@ -1,4 +1,4 @@
--- Set up (01, The calls; 02, f): an item for each device, and an area of the length for them, whatever it holds.
+-- Set up (01, The calls; 02, f and i): an item for each device, and an area of the length for them, whatever it holds.
 use Prim.Native.Nat.{ℕ, suc, _+_, _-_, _*_, _/_}
 use mathlib.Core.List.{List, [], map}
 use mathlib.Core.Bool.{Bool, cond, _&&_, _||_}
@@ -7,7 +7,7 @@ use lib.Dec.{eqb}
 use Rattle.device.specs.PowerOn.{powerOn}
 use Rattle.record.specs.Record.{recordSize}
 use Rattle.record.specs.Sound.{allowed}
-use Rattle.area.specs.Sizes.{linkSize, mostDevices, isCount, itemSize, longItemSize, areaSize}
+use Rattle.area.specs.Sizes.{linkSize, mostDevices, isCount, itemSize, pollItemSize, longItemSize, areaSize}
 use Rattle.area.specs.Parts.{parts, all}
 use Rattle.area.specs.Loop.{Loop, areaOf, shape, unsound}
 use Rattle.calls.specs.Outcome.{After, after}
@@ -16,13 +16,15 @@ use Rattle.calls.specs.Outcome.{After, after}
 abbrev pub devicesFor : ℕ → ℕ
 devicesFor size = (size - areaSize 0) / (recordSize + linkSize)
 
--- so many bytes are n items, all of 12 bytes or all of 13
+-- so many bytes are n items, all of 12 bytes, all of 13 or all of 14
 unfoldable pub isItems : (bytes n : ℕ) → Bool
-isItems bytes n = eqb bytes (itemSize * n) || eqb bytes (longItemSize * n)
+isItems bytes n = eqb bytes (itemSize * n) || (eqb bytes (pollItemSize * n) || eqb bytes (longItemSize * n))
 
 -- how long each of them then is
 unfoldable pub itemWidth : (bytes n : ℕ) → ℕ
-itemWidth bytes n = cond (eqb bytes (longItemSize * n)) longItemSize itemSize
+itemWidth bytes n =
+    cond (eqb bytes (longItemSize * n)) longItemSize
+    (cond (eqb bytes (pollItemSize * n)) pollItemSize itemSize)
 
 -- the items, one for each of n devices
 abbrev pub itemsOf : ℕ → List ℕ → List (List ℕ)

@@ -21,7 +21,7 @@ ghost use mathlib.Core.Path.{_≡_};
 ghost use lib.ListN.{length};
 ghost use Rattle.device.specs.Clear.{reports, toListener};
 ghost use Rattle.device.specs.Commands.{lad, tad, aau};
-ghost use Rattle.device.specs.Take.{takes};
+ghost use Rattle.device.specs.Take.{takesSimple};
 ghost use Rattle.device.specs.declared.Device.{Device};
 ghost use Rattle.frame.specs.Classes.{IsCommand};
 ghost use Rattle.record.specs.Record.{recordSize};
@@ -89,10 +89,10 @@ fn to_listener(state: State, frame: u16, event: Handed) -> Passed
     sends(state, frame)
 }
 
-// What a device does with a command.
+// What a simple device does with a command.
 pub fn command(state: State, rec: &[u8], frame: u16) -> Passed
     requires { ⌜ (length (now rec) ≡ recordSize) × IsCommand frame ⌝ }
-    ensures { λ r. ⌜ sentFrom (now (rec .entry)) r ≡ takes (inRecord (now (rec .entry)) state) frame ⌝ }
+    ensures { λ r. ⌜ sentFrom (now (rec .entry)) r ≡ takesSimple (inRecord (now (rec .entry)) state) frame ⌝ }
 {
     match frame::kind_of(frame) {
         Kind::Lad => sends(lad(state, rec, frame::offset_of(Kind::Lad, frame)), frame),

@@ -14,5 +14,6 @@ pub mod Rendered
 pub mod Lined
 pub mod Third
 pub mod Polled
+pub mod Extended
 pub mod Owing
 pub mod ThirtyOne

@@ -1,6 +1,6 @@
 -- The conditions of 01's refusal table, each a test of a call and an area, written from the table row by row, with what
 -- 02 adds: g to the fourth, a to the first two and a tenth, d (by what is sound) and h to the second, h to the tenth;
--- f to the first, the second (by what is sound and what is allowed), the fourth and the seventh.
+-- f to the first, the second (by what is sound and what is allowed), the fourth and the seventh; i to the first two.
 use Prim.Native.Nat.{ℕ, zero, suc, _*_}
 use mathlib.Core.List.{List, [], _∷_}
 use mathlib.Core.Bool.{Bool, false, not, cond, _&&_, _||_}
@@ -13,7 +13,7 @@ use Rattle.device.specs.Device.{has, hasFurther}
 use Rattle.device.specs.Change.{choice}
 use Rattle.device.specs.declared.Device.{Device}
 use Rattle.record.specs.Sound.{allowed}
-use Rattle.area.specs.Sizes.{depth, mostDevices, itemSize, longItemSize, areaSize}
+use Rattle.area.specs.Sizes.{depth, mostDevices, itemSize, pollItemSize, longItemSize, areaSize}
 use Rattle.area.specs.Parts.{parts, all}
 use Rattle.area.specs.Loop.{countIn, loopOf, sound, device, link}
 use Rattle.saved.specs.Saved.{body, savedSize, savedCount, edition, savedDevices, formed, contents}
@@ -39,16 +39,21 @@ badOutput (drain b) a = false
 badOutput owes a = false
 badOutput (save out) a = not (eqb (length (numbers out)) (savedSize (countIn a)))
 
--- so many bytes are neither 12n nor 13n (02, f)
+-- so many bytes are not 12n, 13n or 14n (02, f and i)
 abbrev pub badItems : (bytes n : ℕ) → Bool
-badItems bytes n = not (eqb bytes (itemSize * n) || eqb bytes (longItemSize * n))
+badItems bytes n = not (eqb bytes (itemSize * n) || (eqb bytes (pollItemSize * n) || eqb bytes (longItemSize * n)))
 
--- the items, each of 13 bytes where there are 13n, and else of 12
+-- bytes of each item: 14 where there are 14n, 13 where there are 13n, and else 12
+abbrev pub itemLength : (bytes n : ℕ) → ℕ
+itemLength bytes n =
+    cond (eqb bytes (longItemSize * n)) longItemSize (cond (eqb bytes (pollItemSize * n)) pollItemSize itemSize)
+
+-- the items
 abbrev pub itemsIn : ℕ → List ℕ → List (List ℕ)
-itemsIn n items = parts (cond (eqb (length items) (longItemSize * n)) longItemSize itemSize) n items
+itemsIn n items = parts (itemLength (length items) n) n items
 
 -- 1, Shape: the area's length isn't a loop's, or not byte 0's, or a save's output is wrong; at set up the items' length
--- isn't 12n or 13n, n being by the area's length; at an opening the area's length isn't the saved loop's
+-- isn't 12n, 13n or 14n, n being by the area's length; at an opening the area's length isn't the saved loop's
 abbrev pub Shape : Call → List ℕ → Bool
 Shape (onArea c) a =
     badOutput c a || (eqb (devicesAt (length a)) 0 || not (eqb (length a) (areaSize (countIn a))))

@@ -1,9 +1,9 @@
 -- The three demands on the model, and what 02 asks of the hops owed (k), of saved loops (a), of the limit on devices
--- (j), of END by choice (h), of clear, trigger, remote and local (d) and of parallel poll (f), over the very
--- definitions that the contracts of the exported functions cite.
+-- (j), of END by choice (h), of clear, trigger, remote and local (d), of parallel poll (f) and of extended addresses
+-- (i), over the very definitions that the contracts of the exported functions cite.
 -- It leans on Calls, Conditions, Drains, Histories (the crate teeth says what it shuts out); frame's Messages,
 -- Classes, Decoding, Coding, Laws, Bits; coding's Coding; poll_count's Count; device's Sent, Sentences, RemoteTable,
--- PollSentences, PollTable, and Take with the rules that it names; record_local's Local; record's Record, Parts, Sound,
+-- PollSentences, PollTable, ExtendedSentences, ExtendedTable, and Take with the rules that it names; record_local's Local; record's Record, Parts, Sound,
 -- Fits, Laws; area's Sizes, Parts, Link, Loop, Lookup; calls' Outcome, Calls, Drain, SetUp, Owed; saved's Saved, Older,
 -- Calls, Laws; limits' Limits; order's Line, Flat, History, RightRound, Through, Owed, which have names of their own.
 use Prim.Native.Nat.{ℕ, suc, _+_, _*_, _≤_, _<_}
@@ -24,9 +24,11 @@ use Rattle.device.specs.PollSentences.{Assigning, OnlyListeners, LeavesPoll, Id
 use Rattle.device.specs.PollSentences.{SharedOr, SharedAnd}
 use Rattle.device.specs.Poll.{answer}
 use Rattle.device.specs.PollTable.{Note5, RackReads}
+use Rattle.device.specs.ExtendedSentences.{SimpleAlone, Remembers, BySecond, Assigned, PlaceKept}
+use Rattle.device.specs.ExtendedTable.{ExtendedTable}
 use Rattle.device.specs.declared.Device.{Device}
 use Rattle.record.specs.Record.{recordOf}
-use Rattle.record.specs.Laws.{AnyRemote, AnyPoll, NoPoll}
+use Rattle.record.specs.Laws.{AnyRemote, AnyPoll, NoPoll, Variants, AnyHalf}
 use Rattle.record.specs.Parts.{splice}
 use Rattle.record.specs.Fits.{Bytes}
 use Rattle.area.specs.Sizes.{depth, mostDevices, recordAt, linkAt}
@@ -343,7 +345,8 @@ pub record EndByChoice : Type 0 where
 -- 2 says; that the order of hops does not matter to them, demand 3.
 
 pub record RemoteLocal : Type 0 where
-  -- A clear or trigger is reported where it is due and only there, and changes no record.
+  -- A clear or trigger is reported where it is due and only there, and changes nothing (but that, as a command, it
+  -- clears an extended device's flags).
   pub events-reported : EventsReported
   pub events-change-nothing : EventsChangeNothing
   -- At a device that listens, could, or cannot, each of the four states goes under every message and the key, with the
@@ -425,3 +428,24 @@ pub record ParallelPoll : Type 0 where
   -- one has none and status 0, the zeros of every earlier area, and the clause on poll then asks for nothing more.
   pub any-poll : AnyPoll
   pub no-poll : NoPoll
+
+-- ---- Extended addresses (02, i). Demand 2 reads over both variants of a device, each by its rules (`takes`); demand 3 is
+-- proved once for both, and that every frame keeps a sound device sound is in `StaysJudged`.
+
+pub record ExtendedAddresses : Type 0 where
+  -- Sensors assigned, addressed and unaddressed, alone and beside a simple device, line by line.
+  pub table : ExtendedTable
+  -- A simple device goes by the simple rules, and leaves SAD, AES and AEP alone.
+  pub simple-alone : SimpleAlone
+  -- An extended one remembers its own LAD or TAD, the later of them, over ready frames and its own SAD, and over no
+  -- other command.
+  pub remembers : Remembers
+  -- Only with that does its own SAD make it a listener or a talker, and another's SAD have the talker idle.
+  pub by-second : BySecond
+  -- AES, AEP and AAU assign and take back both addresses as 001's section 2.15 says, and no other frame does.
+  pub assigned : Assigned
+  pub place-kept : PlaceKept
+  -- Simple devices are sound as they were before, and extended ones without ability 32; a half assigned one with any
+  -- addresses, 31 among them.
+  pub variants : Variants
+  pub any-half : AnyHalf

@@ -4,8 +4,8 @@ use Prim.Native.Nat.{ℕ, _+_, _≤_, _<_}
 use mathlib.Core.Path.{_≡_, refl, sym, _∙_}
 use mathlib.Core.Bool.{Bool, true, false, _||_}
 use native.Mathlib.Omega.{arith}
-use lib.Dec.{eqb, ltb}
-use borrow.Author.Tests.{eq-eqb, ne-eqb, lt-ltb, le-ltb}
+use lib.Dec.{eqb, ltb, leb}
+use borrow.Author.Tests.{eq-eqb, ne-eqb, lt-ltb, le-ltb, le-leb, lt-leb}
 use Rattle.frame.specs.declared.Message.{Message}
 use Rattle.device.specs.Choose.{choose}
 use Rattle.device.specs.Change.{talking}
@@ -41,6 +41,12 @@ module _ {A : Type 0} {x : A} (p q : A) where
   pub unless-lt : {m n : ℕ} → n ≤ m → x ≡ q → x ≡ choose (ltb m n) p q
   unless-lt {m} {n} e h = nay p (le-ltb m n e) h
 
+  pub when-le : {m n : ℕ} → m ≤ n → x ≡ p → x ≡ choose (leb m n) p q
+  when-le {m} {n} e h = yes q (le-leb m n e) h
+
+  pub unless-le : {m n : ℕ} → n < m → x ≡ q → x ≡ choose (leb m n) p q
+  unless-le {m} {n} e h = nay p (lt-leb m n e) h
+
   -- the bound is a call's result
   pub when-lt-of : {m n r : ℕ} → r ≡ n → m < r → x ≡ p → x ≡ choose (ltb m n) p q
   when-lt-of {m} {n} e l h = when-lt {m = m} {n = n} (omega arith) h
@@ -75,6 +81,8 @@ pub ruleset arms = (
   unless-eq,
   when-lt,
   unless-lt,
+  when-le,
+  unless-le,
   when-lt-of,
   unless-lt-of,
   sends-on,

@@ -18,15 +18,27 @@ use Rattle.frame.proofs.Laws.{both-true}
 use Rattle.frame.proofs.Rows.{within-kind}
 use Rattle.device.specs.Choose.{choose}
 use Rattle.device.specs.Reply.{sends}
-use Rattle.device.specs.Take.{Rule, select, rules, takes}
+use Rattle.device.specs.Extended.{heeding}
+use Rattle.device.specs.Take.{Rule, select, rules, extendedRules, takesSimple, takesExtended}
 use Rattle.device.specs.declared.Device.{Device}
 use Rattle.device.specs.Sent.{Sent}
 
+-- what is given for the kind j is given for the frame's
+given : (g : ℕ → Sent) (j : Kind) {k : Kind} {x : Sent} (f : ℕ) → numberOf k ≡ kindAt f → k ≡ j → x ≡ g (numberOf j) →
+    x ≡ g (kindAt f)
+given g j f e q h = h ∙ ap g (sym (ap numberOf q) ∙ e)
+
 pub listed : (j : Kind) {k : Kind} {x : Sent} (d : Device) (f : ℕ) → numberOf k ≡ kindAt f → k ≡ j →
-    x ≡ select (numberOf j) (rules d f (decoded f)) (sends d f) → x ≡ takes d f
-unfolding takes
-listed j d f e q h =
-    h ∙ ap (λ (n : ℕ). select n (rules d f (decoded f)) (sends d f)) (sym (ap numberOf q) ∙ e)
+    x ≡ select (numberOf j) (rules d f (decoded f)) (sends d f) → x ≡ takesSimple d f
+unfolding takesSimple
+listed j d f e q h = given (λ n. select n (rules d f (decoded f)) (sends d f)) j f e q h
+
+pub listed-extended : (j : Kind) {k : Kind} {x : Sent} (d : Device) (f : ℕ) → numberOf k ≡ kindAt f → k ≡ j →
+    x ≡ select (numberOf j) (extendedRules d f (decoded f)) (takesSimple (heeding d (numberOf j)) f) →
+    x ≡ takesExtended d f
+unfolding takesExtended
+listed-extended j d f e q h =
+    given (λ n. select n (extendedRules d f (decoded f)) (takesSimple (heeding d n) f)) j f e q h
 
 -- ---- a kind without a rule, among the frames of a class
 
@@ -50,6 +62,10 @@ apart (j ∷ i ∷ ks) n k o t q =
 both : (a b : Bool) → T (cond a b false) → T a × T b
 both true b t = (tt, t)
 both false b t = absurd t
+
+holds : (b : Bool) → T b → b ≡ true
+holds true t = refl
+holds false t = absurd t
 
 -- the class: the frames from lo to below hi
 module _ (lo hi : ℕ) where
@@ -97,12 +113,40 @@ module _ (lo hi : ℕ) where
 
   pub other : (k : Kind) {x : Sent} (d : Device) (f : ℕ) → numberOf k ≡ kindAt f → lo ≤ f → f < hi →
       let rs = rules d f (decoded f) in
-      OneOf (rest rs 0 kinds) (tagOf the-type k) → T (unlisted (rest rs 0 kinds) rs) → x ≡ sends d f → x ≡ takes d f
-  unfolding takes
+      OneOf (rest rs 0 kinds) (tagOf the-type k) → T (unlisted (rest rs 0 kinds) rs) → x ≡ sends d f →
+      x ≡ takesSimple d f
+  unfolding takesSimple
   other k d f e l h o t s =
       let ks = rest (rules d f (decoded f)) 0 kinds in
       let z : tagOf the-type k ≡ kindAt f = tag k ∙ e in
       s ∙ sym (falls ks f (rules d f (decoded f)) (sends d f) l h (rw z at o) t)
+
+  -- p holds of each kind of ks that has a code there
+  abbrev pub fits : (ℕ → Bool) → List ℕ → Bool
+  fits p [] = true
+  fits p (k ∷ ks) = cond (cond (outside k) true (p k)) (fits p ks) false
+
+  fitting-first : (p : ℕ → Bool) (k f : ℕ) → lo ≤ f → f < hi → kindAt f ≡ k → T (cond (outside k) true (p k)) →
+      p (kindAt f) ≡ true
+  fitting-first p k f l h e t = go (outside k) refl t
+    where
+      go : (a : Bool) → outside k ≡ a → T (cond a true (p k)) → p (kindAt f) ≡ true
+      go true q u = absurd (elsewhere f k l h q e)
+      go false q u = ap p e ∙ holds (p k) u
+
+  fitting : (p : ℕ → Bool) (ks : List ℕ) (f : ℕ) → lo ≤ f → f < hi → OneOf ks (kindAt f) → T (fits p ks) →
+      p (kindAt f) ≡ true
+  fitting p [] f l h o t = absurd o
+  fitting p (k ∷ []) f l h o t = fitting-first p k f l h o (both (cond (outside k) true (p k)) true t .0)
+  fitting p (k ∷ j ∷ ks) f l h o t =
+      let b = both (cond (outside k) true (p k)) (fits p (j ∷ ks)) t in
+      ⊎-elim (λ e. fitting-first p k f l h e (b .0)) (λ m. fitting p (j ∷ ks) f l h m (b .1)) o
+
+  -- of a frame of one of these kinds
+  pub fitting-kind : (p : ℕ → Bool) (ks : List ℕ) (k : Kind) (f : ℕ) → numberOf k ≡ kindAt f → lo ≤ f → f < hi →
+      OneOf ks (tagOf the-type k) → T (fits p ks) → p (kindAt f) ≡ true
+  fitting-kind p ks k f e l h o t =
+      let z : tagOf the-type k ≡ kindAt f = tag k ∙ e in fitting p ks f l h (rw z at o) t
 
 -- a frame of a kind of the list without C1, whose offset can be asked for
 pub coded-as : (j : Kind) {k : Kind} (f : ℕ) → numberOf k ≡ kindAt f → k ≡ j → ltb 0 (numberOf j) ≡ true →

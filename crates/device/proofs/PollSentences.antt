@@ -20,7 +20,7 @@ use Rattle.device.specs.PollSentences.{PastAll, Each, someOn, allOn, Sha
 use Rattle.device.specs.declared.Device.{Device}
 use Rattle.device.proofs.Classes.{idy-frame}
 use Rattle.device.proofs.Marked.{idy-shows, answers, marked-c1}
-use Rattle.device.proofs.Untouched.{plain, untouched}
+use Rattle.device.proofs.Untouched.{plain, apart, untouched}
 use Rattle.device.proofs.Sentences.{idy-goes-on}
 
 -- ---- what is left
@@ -29,14 +29,14 @@ use Rattle.device.proofs.Sentences.{idy-goes-on}
 others-left : (d : Device) (f : ℕ) →
     _≡_ {A = ℕ × ℕ} (takes d f .device .pollstatus, takes d f .device .further) (d .pollstatus, d .further)
 others-left d f =
-    untouched {A = ℕ × ℕ} _ (plain (λ r e a s k. (s, k))) d f
+    untouched {A = ℕ × ℕ} _ (plain (λ r e a s k. (s, k))) (apart (λ r e a s k. (s, k))) d f
     (λ r. record { remoting = λ d x. refl; enabling = λ d x. refl }) (λ a d x. refl)
 
 pub leaves-poll : LeavesPoll
 leaves-poll =
     record {
       assigned = λ d f n.
-          untouched {A = ℕ} _ (plain (λ r e a s k. a)) d f
+          untouched {A = ℕ} _ (plain (λ r e a s k. a)) (apart (λ r e a s k. a)) d f
           (λ r. record { remoting = λ d x. refl; enabling = λ d x. refl }) (λ a. absurd (n a));
       pollstatus = λ d f. ap (λ (p : ℕ × ℕ). p .0) (others-left d f);
       further = λ d f. ap (λ (p : ℕ × ℕ). p .1) (others-left d f);

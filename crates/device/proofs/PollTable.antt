@@ -9,15 +9,15 @@ use Rattle.device.specs.Poll.{ppe, answer}
 use Rattle.device.specs.Commands.{lad}
 use Rattle.device.specs.Reply.{marked}
 use Rattle.device.specs.Ready.{aad}
-use Rattle.device.specs.Take.{takes}
+use Rattle.device.specs.Take.{takesSimple, takes}
 use Rattle.device.specs.PollTable.{Note5, RackReads}
 
 pub note-5 : Note5
 unfolding messages kindAt lookup within firstIn firstOf hasC1 offsetIn c1In choose bytesFrom powerOn ppe answer marked
-    takes
+    takesSimple takes
 note-5 = (refl, refl)
 
 pub rack-reads : RackReads
 unfolding messages kindAt lookup within firstIn firstOf hasC1 offsetIn c1In choose bytesFrom powerOn toRemote lad ppe
-    answer marked aad takes
+    answer marked aad takesSimple takes
 rack-reads = refl

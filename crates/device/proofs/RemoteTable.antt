@@ -13,7 +13,7 @@ use Rattle.device.specs.Commands.{lad, tad, aau}
 use Rattle.device.specs.Reply.{marked}
 use Rattle.device.specs.Ready.{requested, sst, nrd, aad}
 use Rattle.device.specs.Data.{heard, dataOrEnd}
-use Rattle.device.specs.Take.{takes}
+use Rattle.device.specs.Take.{takesSimple, takes}
 use Rattle.device.specs.RemoteTable.{Line, moving, staying, seen, said, Holds, RemoteTable}
 
 -- line by line, so that a wrong one is shown
@@ -27,12 +27,12 @@ each-holds (r ∷ rs) h = rw (h .0, each-holds rs (h .1))
 
 moving-each : Each moving
 unfolding messages kindAt lookup within firstIn firstOf hasC1 offsetIn c1In choose bytesFrom powerOn moves toRemote llo
-    gtl key lad takes
+    gtl key lad takesSimple takes
 moving-each = (refl, (refl, (refl, (refl, (refl, (refl, (refl, (refl, tt))))))))
 
 staying-holds : Holds staying
 unfolding messages kindAt lookup within firstIn firstOf hasC1 offsetIn c1In choose bytesFrom powerOn toListener ppe ppd
-    lad tad aau answer marked requested sst nrd aad heard dataOrEnd takes
+    lad tad aau answer marked requested sst nrd aad heard dataOrEnd takesSimple takes
 staying-holds = refl
 
 both : (rs ss : List Line) → Holds rs → Holds ss → Holds (rs ++ ss)

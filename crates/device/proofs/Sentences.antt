@@ -11,7 +11,7 @@ use lib.ListN.{getD}
 use borrow.Author.Tests.{ltb-true, lt-ltb, eq-eqb, ne-eqb}
 use Rattle.frame.specs.Messages.{kindAt, messages, firstIn, firstOf, codesIn, codesOf}
 use Rattle.frame.specs.Decoding.{end, idy, hasC1, offsetIn, decoded, frameOf}
-use Rattle.frame.specs.declared.Kind.the-variants.{End}
+use Rattle.frame.specs.declared.Kind.the-variants.{End, Sdc, Dcl}
 use Rattle.frame.specs.Classes.{IsData}
 use Rattle.frame.specs.Laws.{CodeOf}
 use Rattle.frame.specs.declared.Message.{Message}
@@ -23,12 +23,13 @@ use Rattle.device.specs.Device.{has as able}
 use Rattle.device.specs.Change.{talking}
 use Rattle.device.specs.Remote.{toRemote, llo, gtl, key}
 use Rattle.device.specs.Poll.{unassigned, answer, answered}
-use Rattle.device.specs.Commands.{lad, tad}
+use Rattle.device.specs.Commands.{lad, tad, ifc}
 use Rattle.device.specs.Clear.{toListener}
-use Rattle.device.specs.Reply.{eto, ete, withC1, marked, stops, dataFrame, sendsData, continues}
+use Rattle.device.specs.Reply.{eto, ete, sends, withC1, marked, stops, dataFrame, sendsData, continues}
 use Rattle.device.specs.Ready.{requested, aad}
 use Rattle.device.specs.Data.{agrees, returned, heard, dataOrEnd}
-use Rattle.device.specs.Take.{takes}
+use Rattle.device.specs.Extended.{primaryIdle, primaryLost, extendedLad, extendedTad}
+use Rattle.device.specs.Take.{takesSimple, takesExtended, takes}
 use Rattle.device.specs.Sentences.{ShowsC1, Sending, CommandsGoOn, NoLadIs31, NoTadIs31, ConfiguredPassesAad}
 use Rattle.device.specs.Sentences.{OwnNotHanded, OwnNotPassed, OwnCompared, IdyGoesOn, ServiceShown, C1Kept}
 use Rattle.device.specs.Sentences.{Of, EndWhereAsked, EndOnlyAsked, LeavingZeroes, EventsReported}
@@ -39,11 +40,11 @@ use Rattle.device.specs.declared.Handed.{Handed}
 use Rattle.device.specs.declared.Handed.the-variants.{Clear, Trigger}
 use Rattle.device.specs.Sent.{Sent}
 use Rattle.device.proofs.Classes.{data-frame, idy-frame}
-use Rattle.device.proofs.Chosen.{chosen}
+use Rattle.device.proofs.Chosen.{chosen, by-variant, lost, lost-extended, lost-simple, as-simple, as-lost}
 use Rattle.device.proofs.Marked.{Shows, data-shows, idy-shows, reply, set, made, marked-kind, marked-code}
 use Rattle.device.proofs.Marked.{answers, marked-bits, marked-same, marked-keeps}
 use Rattle.device.proofs.Told.{told}
-use Rattle.device.proofs.Untouched.{plain, untouched}
+use Rattle.device.proofs.Untouched.{plain, apart, untouched}
 
 pub commands-go-on : CommandsGoOn
 commands-go-on d f c = told d f .command c
@@ -52,23 +53,38 @@ lad-other : (d : Device) (a : ℕ) → (a ≡ d .address → ⊥) → lad d a �
 unfolding lad choose
 lad-other d a n = rw (ne-eqb a (d .address) n)
 
+extended-lad-other : (d : Device) (a : ℕ) → (a ≡ d .address → ⊥) → extendedLad d a ≡ primaryIdle d
+unfolding extendedLad choose
+extended-lad-other d a n = rw (ne-eqb a (d .address) n)
+
 pub no-lad-is-31 : NoLadIs31
-unfolding takes choose messages firstIn firstOf codesIn codesOf hasC1 offsetIn
+unfolding takesSimple takesExtended choose messages firstIn firstOf codesIn codesOf hasC1 offsetIn
 no-lad-is-31 d f a e =
-    let h : f < 0x43f = within-kind f 12 e (omega arith) .1 in rw e (lad-other d (f - 0x420) (λ q. omega arith))
+    let h : f < 0x43f = within-kind f 12 e (omega arith) .1 in
+    by-variant (λ (s : Sent). s .device ≡ primaryLost d) d f
+    (λ x. rw (e, lost-extended d x) (extended-lad-other d (f - 0x420) (λ q. omega arith)))
+    (λ x. rw (e, lost-simple d x) (lad-other d (f - 0x420) (λ q. omega arith)))
 
 tad-other : (d : Device) (a : ℕ) → (a ≡ d .address → ⊥) → tad d a ≡ talking d idle
 unfolding tad choose
 tad-other d a n = rw (ne-eqb a (d .address) n)
 
+extended-tad-other : (d : Device) (a : ℕ) → (a ≡ d .address → ⊥) → extendedTad d a ≡ talking (primaryIdle d) idle
+unfolding extendedTad choose
+extended-tad-other d a n = rw (ne-eqb a (d .address) n)
+
 pub no-tad-is-31 : NoTadIs31
-unfolding takes choose messages firstIn firstOf codesIn codesOf hasC1 offsetIn
+unfolding takesSimple takesExtended choose messages firstIn firstOf codesIn codesOf hasC1 offsetIn
 no-tad-is-31 d f a e =
-    let h : f < 0x45f = within-kind f 14 e (omega arith) .1 in rw e (tad-other d (f - 0x440) (λ q. omega arith))
+    let h : f < 0x45f = within-kind f 14 e (omega arith) .1 in
+    by-variant (λ (s : Sent). s .device ≡ talking (primaryLost d) idle) d f
+    (λ x. rw (e, lost-extended d x) (extended-tad-other d (f - 0x440) (λ q. omega arith)))
+    (λ x. rw (e, lost-simple d x) (tad-other d (f - 0x440) (λ q. omega arith)))
 
 pub configured-passes-aad : ConfiguredPassesAad
-unfolding takes choose aad
-configured-passes-aad d f c e = rw (e, ne-eqb (d .configured) 0 c)
+unfolding takesSimple takesExtended choose aad
+configured-passes-aad d f c e =
+    by-variant (λ (s : Sent). s ≡ sends d f) d f (λ x. rw e) (λ x. rw (e, ne-eqb (d .configured) 0 c))
 
 pub own-not-handed : OwnNotHanded
 own-not-handed d f b e s = told d f .unhanded s b e
@@ -185,11 +201,11 @@ last-out d c l b t =
     (marked-kind d _ (reply end _ refl b))
 
 pub end-where-asked : EndWhereAsked
-unfolding takes requested choose
+unfolding takesSimple requested choose
 end-where-asked =
     record {
       at-sda = λ d f l t h e.
-          rw (e, eq-eqb (d .talker) addressed t, h)
+          rw (as-simple d f _ e refl refl, e, eq-eqb (d .talker) addressed t, h)
           (last-out (talking d sendingData) (l .chosen) (l .last) (l .byte) refl);
       at-own-byte = λ d f l t n i k b.
           rw (own-compared d f (omega arith) i .agreed k b, ne-eqb (d .noted) 1 n)
@@ -239,30 +255,47 @@ unfolding toListener
 listener-leaves d f h =
     chosen (λ (s : Sent). s .device ≡ d) (eqb (d .listener) 1) _ _ (λ e. refl) (λ e. refl)
 
+-- and reports it at one
+listener-told : (d : Device) (f : ℕ) (h : Handed) → d .listener ≡ 1 → toListener d f h .handed ≡ h
+unfolding toListener choose
+listener-told d f h l = rw (eq-eqb (d .listener) 1 l)
+
+listener-lost : (d : Device) → d .listener ≡ 1 → primaryLost d .listener ≡ 1
+listener-lost d l = lost d (λ (x : Device). x .listener ≡ 1) l l
+
 pub events-reported : EventsReported
-unfolding takes choose toListener
+unfolding takesSimple choose
 events-reported =
     record {
-      clear = λ d f c. ⊎-elim (λ e. rw e) (λ p. rw (p .0, eq-eqb (d .listener) 1 (p .1))) c;
-      trigger = λ d f p. rw (p .0, eq-eqb (d .listener) 1 (p .1));
+      clear = λ d f c. ⊎-elim (λ (e : Of Dcl f). rw (as-lost d f _ e refl refl, e))
+          (λ (p : Of Sdc f × (d .listener ≡ 1)). rw (as-lost d f _ (p .0) refl refl, p .0)
+          (listener-told (primaryLost d) f Clear (listener-lost d (p .1)))) c;
+      trigger = λ d f p. rw (as-lost d f _ (p .0) refl refl, p .0)
+          (listener-told (primaryLost d) f Trigger (listener-lost d (p .1)));
       only-clear = λ d f h. told d f .cleared h;
       only-trigger = λ d f h. told d f .triggered h;
     }
 
 pub events-change-nothing : EventsChangeNothing
-unfolding takes choose
-events-change-nothing d f (inl e) = rw e
-events-change-nothing d f (inr (inl e)) = rw e (listener-leaves d f Clear)
-events-change-nothing d f (inr (inr e)) = rw e (listener-leaves d f Trigger)
+unfolding takesSimple choose
+events-change-nothing d f (inl e) = rw (as-lost d f _ e refl refl, e)
+events-change-nothing d f (inr (inl e)) =
+    rw (as-lost d f _ e refl refl, e) (listener-leaves (primaryLost d) f Clear)
+events-change-nothing d f (inr (inr e)) =
+    rw (as-lost d f _ e refl refl, e) (listener-leaves (primaryLost d) f Trigger)
 
 pub others-leave-remote : OthersLeaveRemote
 others-leave-remote d f n =
-    let e = untouched {A = ℕ × ℕ} _ (plain (λ r e a s k. (r, e))) d f (λ r. absurd (n r)) (λ a d x. refl) in
+    let e = untouched {A = ℕ × ℕ} _ (plain (λ r e a s k. (r, e))) (apart (λ r e a s k. (r, e))) d f
+    (λ r. absurd (n r)) (λ a d x. refl) in
     record { remote = ap (λ (p : ℕ × ℕ). p .0) e; enabled = ap (λ (p : ℕ × ℕ). p .1) e }
 
 pub ifc-leaves-remote : IfcLeavesRemote
-unfolding takes choose
-ifc-leaves-remote d f e = rw e (record { remote = refl; enabled = refl })
+unfolding takesSimple choose
+ifc-leaves-remote d f e =
+    rw (as-lost d f _ e refl refl, e)
+    (lost d (λ (x : Device). SameRemote d (ifc x)) (record { remote = refl; enabled = refl })
+    (record { remote = refl; enabled = refl }))
 
 disabled : (d : Device) → (d .enabled ≡ 1 → ⊥) → toRemote d ≡ d
 unfolding toRemote choose
@@ -279,14 +312,39 @@ lad-same d a n =
     (λ h. record { remote = refl; enabled = refl }))
     (λ e. record { remote = refl; enabled = refl }))
 
+extended-lad-same : (d : Device) (a : ℕ) → (d .enabled ≡ 1 → ⊥) → SameRemote d (extendedLad d a)
+unfolding extendedLad
+extended-lad-same d a n =
+    rw (disabled d n)
+    (chosen (SameRemote d) (eqb a (d .address)) _ _
+    (λ e. chosen (SameRemote d) (able d listen) _ _ (λ h. record { remote = refl; enabled = refl })
+    (λ h. record { remote = refl; enabled = refl }))
+    (λ e. record { remote = refl; enabled = refl }))
+
+llo-same : (d : Device) → (d .enabled ≡ 1 → ⊥) → llo d ≡ d
+unfolding llo choose
+llo-same d n = rw (ne-eqb (d .enabled) 1 n)
+
 pub only-enabled : OnlyEnabled
-unfolding takes choose llo
-only-enabled d f n (inl e) = rw (e, ne-eqb (d .enabled) 1 n) (record { remote = refl; enabled = refl })
-only-enabled d f n (inr e) = rw e (lad-same d _ n)
+unfolding takesSimple takesExtended choose
+only-enabled d f n (inl e) =
+    rw (as-lost d f _ e refl refl, e)
+    (lost d (λ (x : Device). SameRemote d (llo x))
+    (rw (llo-same (primaryIdle d) n) (record { remote = refl; enabled = refl }))
+    (rw (llo-same d n) (record { remote = refl; enabled = refl })))
+only-enabled d f n (inr e) =
+    by-variant (λ (s : Sent). SameRemote d (s .device)) d f (λ x. rw e (extended-lad-same d _ n))
+    (λ x. rw e (lad-same d _ n))
+
+gtl-same : (d : Device) → (d .listener ≡ 1 → ⊥) → gtl d ≡ d
+unfolding gtl choose
+gtl-same d n = rw (ne-eqb (d .listener) 1 n)
 
 pub gtl-only-listener : GtlOnlyListener
-unfolding takes choose gtl
-gtl-only-listener d f n e = rw (e, ne-eqb (d .listener) 1 n)
+unfolding takesSimple choose
+gtl-only-listener d f n e =
+    rw (as-lost d f _ e refl refl, e)
+    (lost d (λ (x : Device). gtl x ≡ x) (gtl-same (primaryIdle d) n) (gtl-same d n))
 
 pub key-only-unlocked : KeyOnlyUnlocked
 unfolding key choose

@@ -8,7 +8,7 @@ use native.Mathlib.Omega.{arith}
 use native.Mathlib.Decide.{decLt}
 use lib.Dec.{eqb, ltb}
 use borrow.Author.Tests.{eqb-true, ne-eqb, ltb-false}
-use Rattle.frame.specs.declared.Kind.the-variants.{End, Sdc, Get, Dcl, Aad}
+use Rattle.frame.specs.declared.Kind.the-variants.{End, Sdc, Get, Dcl, Aad, Aes}
 use Rattle.frame.specs.Messages.{kindAt, messages, firstIn, firstOf, codesIn, codesOf}
 use Rattle.frame.specs.Classes.{IsCommand}
 use Rattle.frame.specs.Decoding.{dab, end, hasC1, decoded}
@@ -17,8 +17,9 @@ use Rattle.frame.proofs.Rows.{within-kind}
 use Rattle.frame.proofs.Laws.{idy-kind}
 use Rattle.device.specs.Choose.{choose}
 use Rattle.device.specs.Device.{listen, status, autoAddress, unaddress, idle, addressed, sendingData}
-use Rattle.device.specs.Device.{sendingStatus, asking, endLast, parallelPoll, has, hasFurther, talks, sending}
-use Rattle.device.specs.Change.{listening, talking, placed, counting}
+use Rattle.device.specs.Device.{sendingStatus, asking, endLast, noAddress, halfAssigned, parallelPoll}
+use Rattle.device.specs.Device.{has, hasFurther, talks, presentSecond, listenPrimary, talkPrimary, sending}
+use Rattle.device.specs.Change.{listening, talking, counting}
 use Rattle.device.specs.Remote.{toRemote, llo, gtl}
 use Rattle.device.specs.Poll.{ppe, ppd}
 use Rattle.device.specs.Commands.{lad, tad, aau}
@@ -27,15 +28,17 @@ use Rattle.device.specs.Reply.{eto, ete, sends, marked, stops, dataFrame
 use Rattle.device.specs.Reply.{sendsData, sendsOther, continues}
 use Rattle.device.specs.Ready.{requested, polls, sst, nrd, aad}
 use Rattle.device.specs.Data.{returned, heard, dataOrEnd}
-use Rattle.device.specs.Take.{rules, takes}
+use Rattle.device.specs.Extended.{isCommand, primaryIdle, heeding, extendedLad, extendedTad, sadListens}
+use Rattle.device.specs.Extended.{sadTalks, sad, aes, aep}
+use Rattle.device.specs.Take.{rules, extendedRules, takesSimple, takesExtended, takes}
 use Rattle.device.specs.Sentences.{Of, ShowsC1, Sending, ShowsService, OfBytes, Zeroed, ClearDue, TriggerDue}
 use Rattle.device.specs.declared.Device.{Device}
 use Rattle.device.specs.declared.Handed.{Handed}
 use Rattle.device.specs.declared.Handed.the-variants.{Nothing, Byte, Clear, Trigger}
 use Rattle.device.specs.Sent.{Sent}
 use Rattle.device.proofs.Dispatch.{outside, elsewhere}
-use Rattle.device.proofs.Classes.{data-frame, idy-frame, aad-codes}
-use Rattle.device.proofs.Chosen.{chosen, selected}
+use Rattle.device.proofs.Classes.{data-frame, idy-frame, aad-codes, aes-codes}
+use Rattle.device.proofs.Chosen.{chosen, selected, by-variant}
 use Rattle.device.proofs.Marked.{Shows, shows, data-shows, idy-shows, answers, reply, other-small}
 use Rattle.device.proofs.Marked.{marked-kind, marked-asks}
 
@@ -165,6 +168,52 @@ module _ (d : Device) where
   aau-left : Left d (aau d)
   unfolding aau
   aau-left = chosen (Left d) (has d autoAddress) _ d (λ h. stays d _ refl) (λ h. stays d d refl)
+
+  extended-lad-left : (a : ℕ) → Left d (extendedLad d a)
+  unfolding extendedLad
+  extended-lad-left a =
+      chosen (Left d) (eqb a (d .address)) _ _
+      (λ e. chosen (Left d) (has d listen) _ _ (λ h. stays d _ remote-talker) (λ h. stays d _ refl))
+      (λ e. stays d _ refl)
+
+  extended-tad-left : (a : ℕ) → Left d (extendedTad d a)
+  unfolding extendedTad
+  extended-tad-left a =
+      chosen (Left d) (eqb a (d .address)) _ _
+      (λ e. chosen (Left d) (talks d) _ _ (λ h. stays d _ refl) (λ h. zeroes d (primaryIdle d) idle))
+      (λ e. zeroes d (primaryIdle d) idle)
+
+  sad-listens-left : Left d (sadListens d)
+  unfolding sadListens
+  sad-listens-left =
+      chosen (Left d) (listenPrimary d) _ d
+      (λ l. chosen (Left d) (has d listen) _ d
+      (λ h. chosen (Left d) (has d unaddress) _ _ (λ u. zeroes d (listening d 1) idle) (λ u. stays d _ refl))
+      (λ h. stays d d refl))
+      (λ l. stays d d refl)
+
+  sad-talks-left : (e : Device) → Left d e → Left d (sadTalks e)
+  unfolding sadTalks
+  sad-talks-left e l =
+      chosen (Left d) (talkPrimary e) _ e
+      (λ t. chosen (Left d) (talks e) _ e
+      (λ h. chosen (Left d) (has e unaddress) _ _ (λ u. zeroes d (listening e 0) addressed)
+      (λ u. zeroes d e addressed))
+      (λ h. l))
+      (λ t. l)
+
+  sad-left : (a : ℕ) → Left d (sad d a)
+  unfolding sad
+  sad-left a =
+      chosen (Left d) (eqb a (presentSecond d)) _ _ (λ e. sad-talks-left (sadListens d) sad-listens-left)
+      (λ e. chosen (Left d) (talkPrimary d) _ _ (λ t. zeroes d (primaryIdle d) idle) (λ t. stays d _ refl))
+
+  aep-left : (a : ℕ) → Left d (aep d a)
+  unfolding aep
+  aep-left a =
+      chosen (Left d) (eqb (d .configured) halfAssigned) _ d
+      (λ c. chosen (Left d) (ltb (presentSecond d) noAddress) _ d (λ l. stays d _ refl) (λ l. stays d d refl))
+      (λ c. stays d d refl)
 
   nrd-left : Left d (nrd d)
   unfolding nrd
@@ -301,24 +350,32 @@ module _ (d : Device) (f : ℕ) (q : ShowsService f → ⊥) where
       chosen (Told d f) (eqb (d .listener) 1) _ _
       (λ l. events Trigger (λ z. omega arith) (apart (λ e. omega arith)) (λ h. (k, eqb-true _ _ l))) (λ l. still)
 
+  -- an address is taken, and the frame plus one goes on
+  taken : (e : Device) → e .talker ≡ d .talker → 0x500 ≤ f → f < 0x5ff → Told d f (sends e (f + 1))
+  taken e t l h =
+      record {
+        command = λ c. omega (arith, c .past);
+        unhanded = λ s b e. apart (λ z. omega arith);
+        cleared = apart (λ e. omega arith);
+        triggered = apart (λ e. omega arith);
+        left = λ s. stays d e t;
+        shown = λ b a s. absurd (no-service (f + 1) (omega arith) (omega arith) s);
+        asked = λ b c e. absurd (no-end (f + 1) (omega arith) e);
+      }
+
   aad-told : Of Aad f → (a : ℕ) → Told d f (aad d f a)
   unfolding aad
   aad-told k a =
+      let w = aad-codes f k in
       chosen (Told d f) (eqb (d .configured) 0) _ _
-      (λ c. chosen (Told d f) (has d autoAddress) _ _ (λ h. taken) (λ h. still)) (λ c. still)
-    where
-      taken : Told d f (sends (placed d a 1) (f + 1))
-      taken =
-          let w = aad-codes f k in
-          record {
-            command = λ c. omega (arith, c .past);
-            unhanded = λ s b e. apart (λ z. omega arith);
-            cleared = apart (λ e. omega arith);
-            triggered = apart (λ e. omega arith);
-            left = λ s. stays d _ refl;
-            shown = λ b a s. absurd (no-service (f + 1) (omega arith) (omega arith) s);
-            asked = λ b c e. absurd (no-end (f + 1) (omega arith) e);
-          }
+      (λ c. chosen (Told d f) (has d autoAddress) _ _ (λ h. taken _ refl (omega arith) (omega arith)) (λ h. still))
+      (λ c. still)
+
+  aes-told : Of Aes f → (a : ℕ) → Told d f (aes d f a)
+  unfolding aes
+  aes-told k a =
+      let w = aes-codes f k in
+      chosen (Told d f) (eqb (d .configured) 0) _ _ (λ c. taken _ refl (omega arith) (omega arith)) (λ c. still)
 
   module _ (n : IsCommand f → ⊥) where
     -- only an addressed device starts a reply, and that one is not sending
@@ -345,10 +402,10 @@ module _ (d : Device) (f : ℕ) (q : ShowsService f → ⊥) where
   no-command k o e c = elsewhere 0x400 0x500 f k (c .first) (c .past) o e
 
   -- whichever rule is selected
-  rules-told : Told d f (takes d f)
-  unfolding takes messages firstIn firstOf codesIn codesOf hasC1
-  rules-told =
-      selected (Told d f) (kindAt f) (rules d f (decoded f)) (sends d f) still
+  simple-told : Told d f (takesSimple d f)
+  unfolding takesSimple messages firstIn firstOf codesIn codesOf hasC1
+  simple-told =
+      selected (Told d f) (kindAt f) (rules d f (decoded f)) (sends d f) (λ u. still)
       (λ e. passes _ (lad-left d _))
       (λ e. passes _ (stays d _ refl))
       (λ e. passes _ (tad-left d _))
@@ -376,6 +433,42 @@ module _ (d : Device) (f : ℕ) (q : ShowsService f → ⊥) where
       (λ e. marks d f (no-command _ refl e) _ (answers d (shows f (ap hasC1 e))) (λ k. absurd (omega (arith, e, k)))
       Nothing (inl refl) (λ s. refl))
 
+-- what is told of a device without its flags is told of it with them
+flags-told : (d : Device) (f : ℕ) {s : Sent} → Told (primaryIdle d) f s → Told d f s
+flags-told d f t =
+    record {
+      command = t .command;
+      unhanded = t .unhanded;
+      cleared = t .cleared;
+      triggered = t .triggered;
+      left = t .left;
+      shown = λ b. t .shown (bytes b);
+      asked = λ b. t .asked (bytes b);
+    }
+  where
+    bytes : OfBytes d → OfBytes (primaryIdle d)
+    bytes b = record { status = b .status; accessory = b .accessory; id = b .id; load = b .load }
+
+module _ (d : Device) (f : ℕ) (q : ShowsService f → ⊥) where
+  heeded-told : (k : ℕ) → Told d f (takesSimple (heeding d k) f)
+  unfolding heeding
+  heeded-told k =
+      chosen (λ (x : Device). Told d f (takesSimple x f)) (isCommand k) (primaryIdle d) d
+      (λ c. flags-told d f (simple-told (primaryIdle d) f q)) (λ c. simple-told d f q)
+
+  extended-told : Told d f (takesExtended d f)
+  unfolding takesExtended
+  extended-told =
+      selected (Told d f) (kindAt f) (extendedRules d f (decoded f)) (takesSimple (heeding d (kindAt f)) f)
+      (λ u. heeded-told (kindAt f))
+      (λ e. passes d f q _ (extended-lad-left d _))
+      (λ e. passes d f q _ (extended-tad-left d _))
+      (λ e. passes d f q _ (sad-left d _))
+      (λ e. passes d f q _ (stays d _ refl))
+      (λ e. still d f q)
+      (λ e. aes-told d f q e _)
+      (λ e. passes d f q _ (aep-left d _))
+
 shows? : (f : ℕ) → Dec (ShowsService f)
 shows? f = go (decLt f 0x400) (decLt f 0x600) (decLt f 0x800)
   where
@@ -395,4 +488,4 @@ told d f = go (shows? f)
         rw (idy-frame d f (i .first) (i .past))
         (marks d f (λ c. omega arith) _ (answers d (idy-shows f (i .first) (i .past)))
         (λ k. absurd (omega (arith, idy-kind f (i .first) (i .past), k))) Nothing (inl refl) (λ s. refl))
-    go (no q) = rules-told d f q
+    go (no q) = by-variant (Told d f) d f (λ x. extended-told d f q) (λ x. simple-told d f q)

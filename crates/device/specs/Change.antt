@@ -1,10 +1,10 @@
 -- A device with some of its values changed: each change names what is new, and all else stays.
-use Prim.Native.Nat.{ℕ}
+use Prim.Native.Nat.{ℕ, _+_, _*_, _/_}
 use mathlib.Core.Bool.{cond}
 use mathlib.Core.List.{List, [], _∷_}
 use lib.Dec.{eqb}
 use lib.ListN.{length}
-use Rattle.device.specs.Device.{mostData}
+use Rattle.device.specs.Device.{received, mostData, fixedSecond, presentSecond}
 use Rattle.device.specs.PowerOn.{bytesFrom}
 use Rattle.device.specs.declared.Device.{Device}
 
@@ -51,6 +51,12 @@ enabled = 18
 abbrev pub choice : ℕ
 choice = 19
 
+abbrev pub fixedsecond : ℕ
+fixedsecond = 20
+
+abbrev pub second : ℕ
+second = 21
+
 abbrev pub assigned : ℕ
 assigned = 22
 
@@ -94,6 +100,8 @@ remade d es load =
       remote = after es remote (d .remote);
       enabled = after es enabled (d .enabled);
       choice = after es choice (d .choice);
+      fixedsecond = after es fixedsecond (d .fixedsecond);
+      second = after es second (d .second);
       assigned = after es assigned (d .assigned);
       pollstatus = after es pollstatus (d .pollstatus);
       id = d .id;
@@ -156,3 +164,11 @@ assigning d x = changed d (assigned becomes x ∷ [])
 -- poll status s
 abbrev pub pollstatusing : Device → ℕ → Device
 pollstatusing d s = changed d (pollstatus becomes s ∷ [])
+
+-- in front of the second addresses l and t, each 0 or `received`: whether the listen and the talk primary were
+abbrev pub flagging : Device → (l t : ℕ) → Device
+flagging d l t = changed d (fixedsecond becomes (fixedSecond d + l) ∷ second becomes (presentSecond d + t) ∷ [])
+
+-- present second address a, the flag in front of it as it was
+abbrev pub seconding : Device → ℕ → Device
+seconding d a = changed d (second becomes ((d .second / received) * received + a) ∷ [])

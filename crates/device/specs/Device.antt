@@ -1,5 +1,5 @@
 -- The numbers that 01's table of the record names, and a device's abilities.
-use Prim.Native.Nat.{ℕ}
+use Prim.Native.Nat.{ℕ, _%_}
 use mathlib.Core.Bool.{Bool, not, _||_}
 use lib.Dec.{eqb, ltb, leb}
 use lib.Bits.{bitAnd}
@@ -30,9 +30,12 @@ unaddress = 64
 abbrev pub serviceRequest : ℕ
 serviceRequest = 128
 
--- further abilities, those of byte 7 (02, f)
+-- further abilities, those of byte 7 (02, f and i)
 abbrev pub parallelPoll : ℕ
 parallelPoll = 1
+
+abbrev pub extended : ℕ
+extended = 2
 
 -- talker states
 abbrev pub idle : ℕ
@@ -90,6 +93,15 @@ RWLS = 3
 abbrev pub noAddress : ℕ
 noAddress = 31
 
+-- an extended device that has its second address and waits for its primary: byte 3 (02, i)
+abbrev pub halfAssigned : ℕ
+halfAssigned = 2
+
+-- a second address is the low five bits of byte 20, the fixed one, or of byte 21, the present one; to byte 20 this is
+-- added once the listen primary was received, to byte 21 once the talk primary was (01, Kept for later parts)
+abbrev pub received : ℕ
+received = 32
+
 -- the most bytes of an ID, and of data
 abbrev pub mostID : ℕ
 mostID = 8
@@ -108,6 +120,20 @@ hasFurther d ability = not (eqb (bitAnd (d .further) ability) 0)
 -- it has at least one of 2, 4, 8, 16
 abbrev pub talks : Device → Bool
 talks d = has d sendData || (has d status || (has d deviceID || has d accessoryID))
+
+-- its second addresses
+abbrev pub fixedSecond : Device → ℕ
+fixedSecond d = d .fixedsecond % received
+
+abbrev pub presentSecond : Device → ℕ
+presentSecond d = d .second % received
+
+-- its listen primary was received, or its talk primary
+abbrev pub listenPrimary : Device → Bool
+listenPrimary d = leb received (d .fixedsecond)
+
+abbrev pub talkPrimary : Device → Bool
+talkPrimary d = leb received (d .second)
 
 -- it is in one of the talker states 2 to 5
 abbrev pub sending : Device → Bool

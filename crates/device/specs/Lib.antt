@@ -11,9 +11,12 @@ pub mod Reply
 pub mod Clear
 pub mod Ready
 pub mod Data
+pub mod Extended
 pub mod Take
 pub mod Sentences
 pub mod Rows
 pub mod RemoteTable
 pub mod PollSentences
 pub mod PollTable
+pub mod ExtendedSentences
+pub mod ExtendedTable

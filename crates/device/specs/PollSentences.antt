@@ -14,6 +14,7 @@ use Rattle.frame.specs.Bits.{bit}
 use Rattle.device.specs.Device.{asking, parallelPoll, hasFurther}
 use Rattle.device.specs.Change.{assigning}
 use Rattle.device.specs.Poll.{assignment, unassigned, isAssigned, sense, bitNumber, answer}
+use Rattle.device.specs.Extended.{primaryLost}
 use Rattle.device.specs.Take.{takes}
 use Rattle.device.specs.Sentences.{Of}
 use Rattle.device.specs.declared.Device.{Device}
@@ -24,15 +25,16 @@ use Rattle.device.specs.declared.Device.{Device}
 -- and PPU at every device;
 pub record Assigning : Type 0 where
   pub ppe : (d : Device) (f : ℕ) → d .listener ≡ 1 → hasFurther d parallelPoll ≡ true → Of Ppe f →
-      takes d f .device ≡ assigning d (assignment (decoded f .offset))
-  pub ppd : (d : Device) (f : ℕ) → d .listener ≡ 1 → Of Ppd f → takes d f .device ≡ assigning d unassigned
-  pub ppu : (d : Device) (f : ℕ) → Of Ppu f → takes d f .device ≡ assigning d unassigned
+      takes d f .device ≡ assigning (primaryLost d) (assignment (decoded f .offset))
+  pub ppd : (d : Device) (f : ℕ) → d .listener ≡ 1 → Of Ppd f →
+      takes d f .device ≡ assigning (primaryLost d) unassigned
+  pub ppu : (d : Device) (f : ℕ) → Of Ppu f → takes d f .device ≡ assigning (primaryLost d) unassigned
 
--- elsewhere PPE and PPD change nothing;
+-- elsewhere PPE and PPD do nothing of the kind;
 pub record OnlyListeners : Type 0 where
-  pub ppe : (d : Device) (f : ℕ) → (d .listener ≡ 1 → ⊥) → Of Ppe f → takes d f .device ≡ d
-  pub ppe-able : (d : Device) (f : ℕ) → hasFurther d parallelPoll ≡ false → Of Ppe f → takes d f .device ≡ d
-  pub ppd : (d : Device) (f : ℕ) → (d .listener ≡ 1 → ⊥) → Of Ppd f → takes d f .device ≡ d
+  pub ppe : (d : Device) (f : ℕ) → (d .listener ≡ 1 → ⊥) → Of Ppe f → takes d f .device ≡ primaryLost d
+  pub ppe-able : (d : Device) (f : ℕ) → hasFurther d parallelPoll ≡ false → Of Ppe f → takes d f .device ≡ primaryLost d
+  pub ppd : (d : Device) (f : ℕ) → (d .listener ≡ 1 → ⊥) → Of Ppd f → takes d f .device ≡ primaryLost d
 
 -- no other message changes them, IFC among those, and none at all changes the status or the ability.
 abbrev pub Assigns : ℕ → Type 0

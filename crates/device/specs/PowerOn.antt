@@ -1,5 +1,5 @@
--- A device at power-on, from its set-up item (01, The calls; 02, f): abilities, fixed address, accessory ID, ID length,
--- 8 ID bytes and, where the item has 13 bytes, the further abilities, which are 0 where it has 12.
+-- A device at power-on, from its set-up item (01, The calls; 02, f and i): abilities, fixed address, accessory ID, ID
+-- length, 8 ID bytes and, in longer items, the further abilities and the fixed second address, 0 where it has them not.
 use Prim.Native.Nat.{ℕ, zero, suc}
 use mathlib.Core.List.{List, [], _∷_}
 use lib.ListN.{getD, replicate}
@@ -11,7 +11,7 @@ unfoldable pub bytesFrom : ℕ → ℕ → List ℕ → List ℕ
 bytesFrom k zero b = []
 bytesFrom k (suc n) b = getD b k 0 ∷ bytesFrom (suc k) n b
 
--- address now is the fixed one, all else zero but the item's values
+-- both present addresses are the fixed ones, all else zero but the item's values
 unfoldable pub powerOn : List ℕ → Device
 powerOn item =
     record {
@@ -34,6 +34,8 @@ powerOn item =
       remote = LOCS;
       enabled = 0;
       choice = plainLast;
+      fixedsecond = getD item 13 0;
+      second = getD item 13 0;
       assigned = 0;
       pollstatus = 0;
       id = bytesFrom 4 mostID item;

@@ -1,5 +1,6 @@
 -- Sentences of 01, "What a device does with a frame", and of 02, b, d, f and h, on every frame that they speak of and
--- every device, sound or not, but for those that ask for bytes. Proved in proofs/Sentences.antt.
+-- every device of either variant, sound or not, but for those that ask for bytes; `primaryLost` says that a command is
+-- no extended device's own (02, i), and of a simple one nothing. Proved in proofs/Sentences.antt.
 use Prim.Native.Nat.{ℕ, _+_, _≤_, _<_}
 use mathlib.Core.Path.{_≡_}
 use mathlib.Core.Bool.{true}
@@ -19,6 +20,7 @@ use Rattle.device.specs.Change.{talking}
 use Rattle.device.specs.Poll.{unassigned, answer}
 use Rattle.device.specs.Reply.{eto, ete, sends, withC1, stops, continues}
 use Rattle.device.specs.Remote.{key}
+use Rattle.device.specs.Extended.{primaryLost}
 use Rattle.device.specs.Take.{takes}
 use Rattle.device.specs.declared.Device.{Device}
 use Rattle.device.specs.declared.Handed.the-variants.{Nothing, Byte, Clear, Trigger}
@@ -41,11 +43,12 @@ CommandsGoOn = (d : Device) (f : ℕ) → IsCommand f → takes d f .frame ≡ f
 
 -- Address 31 equals no LAD,
 abbrev pub NoLadIs31 : Type 0
-NoLadIs31 = (d : Device) (f : ℕ) → d .address ≡ noAddress → Of Lad f → takes d f .device ≡ d
+NoLadIs31 = (d : Device) (f : ℕ) → d .address ≡ noAddress → Of Lad f → takes d f .device ≡ primaryLost d
 
 -- nor TAD: every TAD is another's, and the talker is idle.
 abbrev pub NoTadIs31 : Type 0
-NoTadIs31 = (d : Device) (f : ℕ) → d .address ≡ noAddress → Of Tad f → takes d f .device ≡ talking d idle
+NoTadIs31 =
+    (d : Device) (f : ℕ) → d .address ≡ noAddress → Of Tad f → takes d f .device ≡ talking (primaryLost d) idle
 
 -- A configured device leaves AAD alone.
 abbrev pub ConfiguredPassesAad : Type 0
@@ -153,9 +156,10 @@ pub record EventsReported : Type 0 where
   pub only-clear : (d : Device) (f : ℕ) → takes d f .handed ≡ Clear → ClearDue d f
   pub only-trigger : (d : Device) (f : ℕ) → takes d f .handed ≡ Trigger → TriggerDue d f
 
--- A clear or trigger changes no record, nor does its message where none is due.
+-- A clear or trigger changes nothing, nor does its message where none is due.
 abbrev pub EventsChangeNothing : Type 0
-EventsChangeNothing = (d : Device) (f : ℕ) → Of Dcl f ⊎ (Of Sdc f ⊎ Of Get f) → takes d f .device ≡ d
+EventsChangeNothing =
+    (d : Device) (f : ℕ) → Of Dcl f ⊎ (Of Sdc f ⊎ Of Get f) → takes d f .device ≡ primaryLost d
 
 -- the state of remote and local and the flag stay
 pub record SameRemote (d e : Device) : Type 0 where
@@ -180,7 +184,7 @@ OnlyEnabled = (d : Device) (f : ℕ) → (d .enabled ≡ 1 → ⊥) → Of Llo f
 
 -- and GTL changes nothing at all but at an addressed listener.
 abbrev pub GtlOnlyListener : Type 0
-GtlOnlyListener = (d : Device) (f : ℕ) → (d .listener ≡ 1 → ⊥) → Of Gtl f → takes d f .device ≡ d
+GtlOnlyListener = (d : Device) (f : ℕ) → (d .listener ≡ 1 → ⊥) → Of Gtl f → takes d f .device ≡ primaryLost d
 
 -- The key does nothing where locked, nor in local.
 abbrev pub KeyOnlyUnlocked : Type 0

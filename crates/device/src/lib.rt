@@ -23,6 +23,8 @@ pub struct Device {
     pub remote: u8,
     pub enabled: u8,
     pub choice: u8,
+    pub fixedsecond: u8,
+    pub second: u8,
     pub assigned: u8,
     pub pollstatus: u8,
     pub id: [u8; Device::MOST_ID],
@@ -57,6 +59,8 @@ impl Device {
 
     // Further abilities, as byte 7 adds them up.
     pub const PARALLEL_POLL: u8 = 1;
+
+    pub const EXTENDED: u8 = 2;
 
     // Talker states.
     pub const IDLE: u8 = 0;
@@ -97,6 +101,12 @@ impl Device {
 
     pub const UNASSIGNED: u8 = 0;
 
+    // An extended device that waits for its primary address, and what stands in front of a second address once the
+    // listen or the talk primary was received.
+    pub const HALF_ASSIGNED: u8 = 2;
+
+    pub const RECEIVED: u8 = 32;
+
     // The fixed address of a device that has none, and limits: bytes of ID and of data, and past any last frame sent.
     pub const NO_ADDRESS: u8 = 31;
 
@@ -106,8 +116,9 @@ impl Device {
 
     pub const PAST_LAST: u16 = 0x400;
 
-    // The device of a set-up item: abilities, fixed address, accessory ID, ID length, ID, further abilities.
-    pub fn power_on(item: [u8; 13]) -> Self
+    // The device of a set-up item: abilities, fixed address, accessory ID, ID length, ID, further abilities, fixed
+    // second address.
+    pub fn power_on(item: [u8; 14]) -> Self
         ensures { λ r. ⌜ r ≡ powerOn item ⌝ }
     {
         Self {
@@ -130,6 +141,8 @@ impl Device {
             remote: Self::LOCS,
             enabled: 0,
             choice: Self::PLAIN_LAST,
+            fixedsecond: item[13],
+            second: item[13],
             assigned: 0,
             pollstatus: 0,
             id: [

@@ -18,12 +18,12 @@ use find::find;
 use state::Passed;
 use taker::take_in;
 ghost use mathlib.Core.Path.{_≡_};
-ghost use Rattle.area.specs.Loop.{loopOf, device, Holds, HasDevice};
+ghost use Rattle.area.specs.Loop.{loopOf, Holds, HasDevice};
 ghost use Rattle.area.specs.Lookup.{setDevice};
 ghost use Rattle.calls.specs.Outcome.{Is, afterOf};
 ghost use Rattle.calls.specs.Calls.{noHop, hopAnswer, sentBy, passed, hopIn, hopOf};
-ghost use Rattle.calls.specs.Inner.{Passes};
-ghost use Rattle.state.specs.State.{sentWith};
+ghost use Rattle.calls.specs.Inner.{Passes as CanPass};
+ghost use Rattle.taker.specs.InPlace.{Passes};
 
 fn no_hop(refusal: u8) -> HopAnswer
     ensures { λ r. ⌜ r ≡ noHop refusal ⌝ }
@@ -76,8 +76,7 @@ fn hop_answer(passed: Passed) -> HopAnswer
 // Device i takes a frame in its record.
 fn take_at(area: &mut [u8], i: usize, frame: u16) -> Passed
     requires { ⌜ HasDevice (now area) i ⌝ }
-    ensures { λ r. ⌜ sentWith (device (loopOf (now (area .entry))) i) r ≡
-        sentBy i frame (loopOf (now (area .entry))) ⌝ }
+    ensures { λ r. ⌜ Passes (sentBy i frame (loopOf (now (area .entry)))) r ⌝ }
     ensures { λ r. ⌜ Holds (now (area .exit))
         (setDevice i (sentBy i frame (loopOf (now (area .entry))) .device) (loopOf (now (area .entry)))) ⌝ }
 {
@@ -87,9 +86,8 @@ fn take_at(area: &mut [u8], i: usize, frame: u16) -> Passed
 
 // Device i takes a frame, its oldest, and sends one, for which there is room.
 fn pass_on(area: &mut [u8], i: usize, frame: u16, behind: usize) -> Passed
-    requires { ⌜ Passes (now area) i frame behind ⌝ }
-    ensures { λ r. ⌜ sentWith (device (loopOf (now (area .entry))) i) r ≡
-        sentBy i frame (loopOf (now (area .entry))) ⌝ }
+    requires { ⌜ CanPass (now area) i frame behind ⌝ }
+    ensures { λ r. ⌜ Passes (sentBy i frame (loopOf (now (area .entry)))) r ⌝ }
     ensures { λ r. ⌜ Holds (now (area .exit)) (passed i frame (loopOf (now (area .entry)))) ⌝ }
 {
     let passed = take_at(area, i, frame);

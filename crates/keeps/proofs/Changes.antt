@@ -1,23 +1,29 @@
 -- Each change of a device keeps it sound where what it writes is in order: only the group that reads it is shown anew.
-use Prim.Native.Nat.{ℕ, _≤_, _<_}
+use Prim.Native.Nat.{ℕ, _%_, _≤_, _<_}
 use mathlib.Core.Path.{_≡_, refl}
-use mathlib.Core.Bool.{true}
-use mathlib.Core.List.{List}
+use mathlib.Core.Bool.{Bool, true, false, not, cond}
+use mathlib.Core.List.{List, [], _∷_}
 use native.Mathlib.Omega.{arith}
 use lib.ListN.{length}
 use lib.Dec.{ltb}
-use borrow.Author.Tests.{eq-eqb, lt-ltb}
-use Rattle.device.specs.Device.{has, talks, mostData}
+use borrow.Author.Tests.{eq-eqb, lt-ltb, le-leb}
+use Rattle.device.specs.Device.{extended, has, hasFurther, talks, mostData}
 use Rattle.device.specs.Change.{listening, talking, placed, serving, noting, remoting, enabling, choosing, loading}
-use Rattle.device.specs.Change.{statusing, assigning, pollstatusing}
+use Rattle.device.specs.Change.{statusing, assigning, pollstatusing, _becomes_, changed, address, configured}
+use Rattle.device.specs.Change.{fixedsecond, second}
 use Rattle.device.specs.declared.Device.{Device}
 use Rattle.device.proofs.Bytes.{bytes-wide}
 use Rattle.record.specs.Fits.{Bytes}
-use Rattle.record.specs.Sound.{pollRight}
+use Rattle.record.specs.Sound.{simpleRight, extendedRight, pollRight}
 use Rattle.record.proofs.Bytes.{bytes-small}
 use Rattle.keeps.proofs.Zeros.{padded-zero}
-use Rattle.keeps.proofs.Groups.{Kept, Talks, eq-in, lt-in, only-in}
+use Rattle.keeps.proofs.Groups.{Kept, Talks, simply-of, doubly-of, eq-in, lt-in, only-in}
 use Rattle.record.proofs.Both.{both-true}
+
+-- a device at other addresses
+abbrev pub spot : Device → (a x y z : ℕ) → Device
+spot d a x y z =
+    changed d (address becomes a ∷ configured becomes x ∷ fixedsecond becomes y ∷ second becomes z ∷ [])
 
 -- nothing is being sent
 pub rested : (d : Device) (x : ℕ) → x ≤ 1 → (x ≡ 1 → talks d ≡ true) → Talks (talking d x)
@@ -69,9 +75,24 @@ module _ (d : Device) (k : Kept d) where
         polls = k .polls;
       }
 
-  -- the fixed address and unconfigured, or an address 0-30 and configured
-  pub placed-kept : (a x : ℕ) → a ≤ 31 → x ≤ 1 → (x ≡ 0 → a ≡ d .fixed) → (x ≡ 1 → has d 32 ≡ true) →
-      (x ≡ 1 → a < 31) → Kept (placed d a x)
+  -- a device with ability 32 is a simple one
+  simple-one : has d 32 ≡ true → simpleRight d ≡ true
+  simple-one h = go (hasFurther d extended) (k .placed .variant)
+    where
+      go : (b : Bool) → cond b (extendedRight d) (simpleRight d) ≡ true → simpleRight d ≡ true
+      go true e = let z : false ≡ true = rw h at (doubly-of d e .unable) in cc
+      go false e = e
+
+  simple-further : has d 32 ≡ true → hasFurther d extended ≡ false
+  simple-further h = go (hasFurther d extended) (k .placed .variant)
+    where
+      go : (b : Bool) → cond b (extendedRight d) (simpleRight d) ≡ true → b ≡ false
+      go true e = let z : false ≡ true = rw h at (doubly-of d e .unable) in cc
+      go false e = refl
+
+  -- with 32: the fixed address and unconfigured, or an address 0-30 and configured
+  pub placed-kept : (a x : ℕ) → a ≤ 31 → x ≤ 1 → (x ≡ 0 → a ≡ d .fixed) → has d 32 ≡ true → (x ≡ 1 → a < 31) →
+      Kept (placed d a x)
   placed-kept a x m n f h b =
       record {
         sized = k .sized;
@@ -79,9 +100,13 @@ module _ (d : Device) (k : Kept d) where
         placed =
             record {
               address = m;
-              configured = n;
+              configured = omega arith;
               unconf = eq-in (λ e. eq-eqb _ _ (f e));
-              conf = eq-in (λ e. both-true (h e) (lt-ltb _ _ (b e)));
+              variant =
+                  let z = simply-of d (simple-one h) in
+                  rw (simple-further h)
+                  (both-true (eq-in (λ e. both-true h (lt-ltb _ _ (b e))))
+                  (both-true (le-leb _ _ n) (both-true (eq-eqb _ _ (z .fixedsecond)) (eq-eqb _ _ (z .second)))));
             };
         listens = k .listens;
         serves = k .serves;
@@ -90,6 +115,37 @@ module _ (d : Device) (k : Kept d) where
         talks = k .talks;
         polls = k .polls;
       }
+
+  -- an extended one: the address a, configured x, and y and z as bytes 20 and 21
+  pub spot-kept : hasFurther d extended ≡ true → (a x y z : ℕ) → a ≤ 31 → x ≤ 2 → (x ≡ 0 → a ≡ d .fixed) → y < 64 →
+      z < 64 → (x ≡ 0 → z % 32 ≡ y % 32) → (x ≡ 1 → (a < 31) × (z % 32 < 31)) → Kept (spot d a x y z)
+  spot-kept e a x y z m n f g h u b =
+      record {
+        sized = k .sized;
+        made = k .made;
+        placed =
+            record {
+              address = m;
+              configured = n;
+              unconf = eq-in (λ i. eq-eqb _ _ (f i));
+              variant =
+                  rw e
+                  (both-true unable
+                  (both-true (lt-ltb y 64 g)
+                  (both-true (lt-ltb z 64 h)
+                  (both-true (eq-in (λ i. eq-eqb _ _ (u i)))
+                  (eq-in (λ i. both-true (lt-ltb _ _ (b i .0)) (lt-ltb _ _ (b i .1))))))));
+            };
+        listens = k .listens;
+        serves = k .serves;
+        remotes = k .remotes;
+        loads = k .loads;
+        talks = k .talks;
+        polls = k .polls;
+      }
+    where
+      unable : not (has d 32) ≡ true
+      unable = doubly-of d (rw e at (k .placed .variant)) .unable
 
   pub serving-kept : (x : ℕ) → x ≤ 2 → (0 < x → has d 128 ≡ true) → Kept (serving d x)
   serving-kept x m h =

@@ -2,18 +2,19 @@
 -- change leaves the groups alone that do not read what it changes.
 use Prim.Native.Nat.{ℕ, _≤_, _<_}
 use mathlib.Core.Path.{_≡_, refl}
-use mathlib.Core.Bool.{Bool, true, false, not, _&&_, _||_}
+use mathlib.Core.Bool.{Bool, true, false, not, cond, _&&_, _||_}
 use mathlib.Core.List.{List, [], _∷_}
 use native.Mathlib.Omega.{arith}
 use native.Mathlib.Decide.{decLt}
 use lib.Dec.{eqb, ltb, leb}
 use lib.ListN.{length, drop}
 use borrow.Author.Tests.{eqb-true, leb-true, ltb-true, ltb-false, not-true, eq-eqb, le-leb, lt-ltb, le-ltb}
-use Rattle.device.specs.Device.{parallelPoll, has, hasFurther, talks}
+use Rattle.device.specs.Device.{autoAddress, parallelPoll, extended, has, hasFurther, talks}
 use Rattle.device.specs.declared.Device.{Device}
 use Rattle.record.specs.Record.{zeros}
 use Rattle.record.specs.Sound.{only, inRange, zeroPast, serviceWithStatus, unaddressWithBoth, unconfiguredFixed}
-use Rattle.record.specs.Sound.{configuredAble, listenerAble, serviceAble, sendingAble, addressedAble, dataAble}
+use Rattle.record.specs.Sound.{configuredAble, simpleRight, unconfiguredSecond, configuredBoth, extendedRight, variantRight}
+use Rattle.record.specs.Sound.{listenerAble, serviceAble, sendingAble, addressedAble, dataAble}
 use Rattle.record.specs.Sound.{sentWithin, repliedRight, quietOutside, lastBelow, isAssignment, pollRight, soundDevice}
 use Rattle.record.specs.Fits.{Bytes, Fits, Good}
 use Rattle.record.proofs.Both.{left, right, both-true}
@@ -23,6 +24,7 @@ abbrev pub Made : Device → Type 0
 Made d =
     record {
       fixed : d .fixed ≤ 31;
+      further : d .further ≤ 3;
       idlength : d .idlength ≤ 8;
       idzero : zeros (drop (d .idlength) (d .id)) ≡ true;
       service : serviceWithStatus d ≡ true;
@@ -33,9 +35,9 @@ abbrev pub Placed : Device → Type 0
 Placed d =
     record {
       address : d .address ≤ 31;
-      configured : d .configured ≤ 1;
+      configured : d .configured ≤ 2;
       unconf : unconfiguredFixed d ≡ true;
-      conf : configuredAble d ≡ true;
+      variant : variantRight d ≡ true;
     }
 
 abbrev pub Listens : Device → Type 0
@@ -100,10 +102,57 @@ pub record Kept (d : Device) : Type 0 where
   pub talks : Talks d
   pub polls : pollRight d ≡ true
 
+-- ---- what the clause on a device's variant says
+
+pub record Simply (d : Device) : Type 0 where
+  pub able : configuredAble d ≡ true
+  pub configured : d .configured ≤ 1
+  pub fixedsecond : d .fixedsecond ≡ 0
+  pub second : d .second ≡ 0
+
+pub simply-of : (d : Device) → simpleRight d ≡ true → Simply d
+simply-of d h =
+    record {
+      able = search (left, right);
+      configured = leb-true (d .configured) 1 (search (left, right));
+      fixedsecond = eqb-true (d .fixedsecond) 0 (search (left, right));
+      second = eqb-true (d .second) 0 (search (left, right));
+    }
+
+pub record Doubly (d : Device) : Type 0 where
+  pub unable : not (has d autoAddress) ≡ true
+  pub fixedsecond : d .fixedsecond < 64
+  pub second : d .second < 64
+  pub unconf : unconfiguredSecond d ≡ true
+  pub conf : configuredBoth d ≡ true
+
+pub doubly-of : (d : Device) → extendedRight d ≡ true → Doubly d
+doubly-of d h =
+    record {
+      unable = search (left, right);
+      fixedsecond = ltb-true (d .fixedsecond) 64 (search (left, right));
+      second = ltb-true (d .second) 64 (search (left, right));
+      unconf = search (left, right);
+      conf = search (left, right);
+    }
+
+-- of either variant
+pub record Seconds (d : Device) : Type 0 where
+  pub fixedsecond : d .fixedsecond < 64
+  pub second : d .second < 64
+
+pub seconds-of : (d : Device) → variantRight d ≡ true → Seconds d
+seconds-of d h = go (hasFurther d extended) h
+  where
+    go : (b : Bool) → cond b (extendedRight d) (simpleRight d) ≡ true → Seconds d
+    go true e = let x = doubly-of d e in record { fixedsecond = x .fixedsecond; second = x .second }
+    go false e =
+        let x = simply-of d e in
+        record { fixedsecond = omega (arith, x .fixedsecond); second = omega (arith, x .second) }
+
 -- ---- what the clause on poll says
 
 pub record Polled (d : Device) : Type 0 where
-  pub further : d .further ≤ 1
   pub assignment : isAssignment (d .assigned) ≡ true
   pub assigned : d .assigned ≤ 31
   pub status : d .pollstatus ≤ 1
@@ -119,7 +168,6 @@ assigned-few x h = go (eqb x 0) refl h
 pub polled-of : (d : Device) → pollRight d ≡ true → Polled d
 polled-of d h =
     record {
-      further = leb-true (d .further) 1 (search left);
       assignment = search (left, right);
       assigned = assigned-few (d .assigned) (search (left, right));
       status = leb-true (d .pollstatus) 1 (search (left, right));
@@ -185,17 +233,15 @@ joined (b ∷ c ∷ bs) e = both-true (e .0) (joined (c ∷ bs) (e .1))
 
 abbrev clauses : Device → List Bool
 clauses d =
-    inRange d ∷ zeroPast d ∷ serviceWithStatus d ∷ unaddressWithBoth d ∷ unconfiguredFixed d ∷ configuredAble d ∷
-    listenerAble d ∷
-    serviceAble d ∷ sendingAble d ∷ addressedAble d ∷ dataAble d ∷ sentWithin d ∷ repliedRight d ∷ quietOutside d ∷
+    inRange d ∷ zeroPast d ∷ serviceWithStatus d ∷ unaddressWithBoth d ∷ unconfiguredFixed d ∷ variantRight d ∷
+    listenerAble d ∷ serviceAble d ∷ sendingAble d ∷ addressedAble d ∷ dataAble d ∷ sentWithin d ∷ repliedRight d ∷ quietOutside d ∷
     lastBelow d ∷ pollRight d ∷ []
 
 abbrev ranges : Device → List Bool
 ranges d =
-    leb (d .fixed) 31 ∷ leb (d .address) 31 ∷ leb (d .configured) 1 ∷ leb (d .listener) 1 ∷ leb (d .talker) 5 ∷
-    leb (d .service) 2 ∷ leb (d .noted) 1 ∷ leb (d .idlength) 8 ∷ leb (d .loadlength) 32 ∷ leb (d .remote) 3 ∷
-    leb (d .enabled) 1 ∷
-    leb (d .choice) 1 ∷ []
+    leb (d .fixed) 31 ∷ leb (d .address) 31 ∷ leb (d .configured) 2 ∷ leb (d .listener) 1 ∷ leb (d .talker) 5 ∷
+    leb (d .service) 2 ∷ leb (d .further) 3 ∷ leb (d .noted) 1 ∷ leb (d .idlength) 8 ∷ leb (d .loadlength) 32 ∷
+    leb (d .remote) 3 ∷ leb (d .enabled) 1 ∷ leb (d .choice) 1 ∷ []
 
 abbrev states : Device → List Bool
 states d =
@@ -233,7 +279,7 @@ module _ (d : Device) (g : Good d) where
   talked =
       record {
         talker = leb-true _ _ (range .1 .1 .1 .1 .0);
-        noted = leb-true _ _ (range .1 .1 .1 .1 .1 .1 .0);
+        noted = leb-true _ _ (range .1 .1 .1 .1 .1 .1 .1 .0);
         last = ltb-true _ _ (sounds .1 .1 .1 .1 .1 .1 .1 .1 .1 .1 .1 .1 .1 .1 .0);
         addressed = eq-out (sounds .1 .1 .1 .1 .1 .1 .1 .1 .1 .0);
         sendsData = eq-out (state .0);
@@ -267,7 +313,8 @@ module _ (d : Device) (g : Good d) where
         made =
             record {
               fixed = leb-true _ _ (range .0);
-              idlength = leb-true _ _ (range .1 .1 .1 .1 .1 .1 .1 .0);
+              further = leb-true _ _ (range .1 .1 .1 .1 .1 .1 .0);
+              idlength = leb-true _ _ (range .1 .1 .1 .1 .1 .1 .1 .1 .0);
               idzero = past .0;
               service = sounds .1 .1 .0;
               unaddress = sounds .1 .1 .1 .0;
@@ -277,22 +324,22 @@ module _ (d : Device) (g : Good d) where
               address = leb-true _ _ (range .1 .0);
               configured = leb-true _ _ (range .1 .1 .0);
               unconf = sounds .1 .1 .1 .1 .0;
-              conf = sounds .1 .1 .1 .1 .1 .0;
+              variant = sounds .1 .1 .1 .1 .1 .0;
             };
         listens = record { listener = leb-true _ _ (range .1 .1 .1 .0); able = sounds .1 .1 .1 .1 .1 .1 .0 };
         serves = record { service = leb-true _ _ (range .1 .1 .1 .1 .1 .0); able = sounds .1 .1 .1 .1 .1 .1 .1 .0 };
         remotes =
             record {
-              remote = leb-true _ _ (range .1 .1 .1 .1 .1 .1 .1 .1 .1 .0);
-              enabled = leb-true _ _ (range .1 .1 .1 .1 .1 .1 .1 .1 .1 .1 .0);
+              remote = leb-true _ _ (range .1 .1 .1 .1 .1 .1 .1 .1 .1 .1 .0);
+              enabled = leb-true _ _ (range .1 .1 .1 .1 .1 .1 .1 .1 .1 .1 .1 .0);
             };
         loads =
             record {
-              loadlength = leb-true _ _ (range .1 .1 .1 .1 .1 .1 .1 .1 .0);
+              loadlength = leb-true _ _ (range .1 .1 .1 .1 .1 .1 .1 .1 .1 .0);
               loadzero = past .1 .0;
               able = sounds .1 .1 .1 .1 .1 .1 .1 .1 .1 .1 .0;
               sent = leb-true _ _ (sent .0);
-              choice = leb-true _ _ (range .1 .1 .1 .1 .1 .1 .1 .1 .1 .1 .1 .0);
+              choice = leb-true _ _ (range .1 .1 .1 .1 .1 .1 .1 .1 .1 .1 .1 .1 .0);
             };
         talks = talked;
         polls = sounds .1 .1 .1 .1 .1 .1 .1 .1 .1 .1 .1 .1 .1 .1 .1 .0;
@@ -314,14 +361,17 @@ module _ (d : Device) (k : Kept d) where
                 (
                   le-leb _ _ (k .serves .service),
                   (
-                    le-leb _ _ (k .talks .noted),
+                    le-leb _ _ (k .made .further),
                     (
-                      le-leb _ _ (k .made .idlength),
+                      le-leb _ _ (k .talks .noted),
                       (
-                        le-leb _ _ (k .loads .loadlength),
+                        le-leb _ _ (k .made .idlength),
                         (
-                          le-leb _ _ (k .remotes .remote),
-                          (le-leb _ _ (k .remotes .enabled), (le-leb _ _ (k .loads .choice), tt)),
+                          le-leb _ _ (k .loads .loadlength),
+                          (
+                            le-leb _ _ (k .remotes .remote),
+                            (le-leb _ _ (k .remotes .enabled), (le-leb _ _ (k .loads .choice), tt)),
+                          ),
                         ),
                       ),
                     ),
@@ -368,7 +418,7 @@ module _ (d : Device) (k : Kept d) where
           (
             k .placed .unconf,
             (
-              k .placed .conf,
+              k .placed .variant,
               (
                 k .listens .able,
                 (
@@ -408,6 +458,9 @@ module _ (d : Device) (k : Kept d) where
   polled : Polled d
   polled = polled-of d (k .polls)
 
+  seconds : Seconds d
+  seconds = seconds-of d (k .placed .variant)
+
   fits-of : Fits d
   fits-of =
       record {
@@ -418,7 +471,7 @@ module _ (d : Device) (k : Kept d) where
         listener = omega (arith, k .listens .listener);
         talker = omega (arith, k .talks .talker);
         service = omega (arith, k .serves .service);
-        further = omega (arith, polled .further);
+        further = omega (arith, k .made .further);
         noted = omega (arith, k .talks .noted);
         status = k .sized .status;
         accessory = k .sized .accessory;
@@ -430,6 +483,8 @@ module _ (d : Device) (k : Kept d) where
         remote = omega (arith, k .remotes .remote);
         enabled = omega (arith, k .remotes .enabled);
         choice = omega (arith, k .loads .choice);
+        fixedsecond = omega (arith, seconds .fixedsecond);
+        second = omega (arith, seconds .second);
         assigned = omega (arith, polled .assigned);
         pollstatus = omega (arith, polled .status);
         id = k .sized .id;

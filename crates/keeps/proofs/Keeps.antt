@@ -1,39 +1,43 @@
 -- The theorems of specs/Keeps.antt: rule by rule in the papers' order, and then whichever rule the frame's kind
 -- selects.
-use Prim.Native.Nat.{ℕ, _≤_, _<_}
+use Prim.Native.Nat.{ℕ, _+_, _*_, _/_, _%_, _≤_, _<_}
 use mathlib.Core.Path.{_≡_, refl, ap}
 use mathlib.Core.Bool.{Bool, true}
 use native.Mathlib.Omega.{arith}
-use lib.Dec.{eqb, ltb}
+use lib.Dec.{eqb, ltb, leb}
 use lib.ListN.{length}
 use borrow.Author.Tests.{eqb-true, eqb-false, ltb-true, ltb-false, leb-true}
-use Rattle.frame.specs.declared.Kind.the-variants.{Aad}
+use Rattle.frame.specs.declared.Kind.the-variants.{Aad, Aes}
 use Rattle.frame.specs.Messages.{kindAt}
 use Rattle.frame.specs.Decoding.{hasC1, decoded}
 use Rattle.frame.specs.declared.Message.{Message}
 use Rattle.device.specs.Choose.{choose}
-use Rattle.device.specs.Device.{has, hasFurther, talks, sendData, status, parallelPoll, isChoice, sending}
-use Rattle.device.specs.Change.{listening, talking, remoting}
+use Rattle.device.specs.Device.{has, hasFurther, talks, sendData, status, parallelPoll, extended, isChoice, sending}
+use Rattle.device.specs.Change.{listening, talking, remoting, flagging}
 use Rattle.device.specs.Remote.{ren, nre, moves, toRemote, llo, gtl, key}
 use Rattle.device.specs.Commands.{lad, tad, ifc, aau}
 use Rattle.device.specs.Clear.{reports, toListener}
 use Rattle.device.specs.Reply.{sends, marked, eto, ete}
 use Rattle.device.specs.Ready.{requested, polls, sst, nrd, aad}
 use Rattle.device.specs.Data.{returned, heard, dataOrEnd}
-use Rattle.device.specs.Take.{rules, takes}
+use Rattle.device.specs.Extended.{isCommand, primaryIdle, heeding, extendedLad, extendedTad, sadListens, sadTalks}
+use Rattle.device.specs.Extended.{sad, extendedAau, aes, aep}
+use Rattle.device.specs.Take.{rules, extendedRules, takesSimple, takesExtended, takes}
 use Rattle.record_local.specs.Local.{loads, setsStatus, wishing, wishes, yesOrNo, setsPollStatus}
 use Rattle.device.specs.declared.Device.{Device}
 use Rattle.device.specs.declared.Handed.{Handed}
 use Rattle.device.specs.Sentences.{Of}
-use Rattle.device.proofs.Classes.{aad-codes, aad-address, ppe-number}
-use Rattle.device.proofs.Chosen.{chosen, selected}
+use Rattle.device.proofs.Classes.{aad-codes, aad-address, aes-codes, aes-address, aep-address, ppe-number}
+use Rattle.device.proofs.Chosen.{chosen, selected, by-variant}
 use Rattle.device.proofs.Marked.{Shows, shows, answers, marked-below}
 use Rattle.record_local.specs.Local.{Called}
 use Rattle.record.specs.Fits.{Good}
+use Rattle.record.proofs.Both.{left, right}
 use Rattle.keeps.specs.Keeps.{TakeKeeps, TakeBelow, LoadKeeps, StatusKeeps, WishKeeps, LastIsData}
 use Rattle.keeps.specs.Keeps.{ChoiceKeeps, KeyKeeps, PollStatusKeeps, GoodOfBytes}
-use Rattle.keeps.proofs.Groups.{Kept, polled-of, kept-of, good-of, lt-out}
-use Rattle.keeps.proofs.Changes.{listening-kept, resting-kept, placed-kept, serving-kept, noting-kept}
+use Rattle.keeps.proofs.Groups.{Kept, doubly-of, polled-of, kept-of, good-of, eq-out, lt-out}
+use Rattle.keeps.proofs.Changes.{listening-kept, resting-kept, placed-kept, spot-kept, serving-kept}
+use Rattle.keeps.proofs.Changes.{noting-kept}
 use Rattle.keeps.proofs.Changes.{remoting-kept, enabling-kept, loading-kept, choosing-kept, statusing-kept}
 use Rattle.keeps.proofs.Changes.{polling-kept}
 use Rattle.keeps.proofs.Polls.{able-poll, none-kept, ppe-kept, ppd-kept}
@@ -137,8 +141,7 @@ module _ (d : Device) (k : Kept d) where
   unfolding aau
   aau-kept =
       chosen Kept (has d 32) _ d
-      (λ h. placed-kept d k (d .fixed) 0 (k .made .fixed) (omega arith) (λ e. refl) (λ e. absurd (omega arith))
-      (λ e. absurd (omega arith)))
+      (λ h. placed-kept d k (d .fixed) 0 (k .made .fixed) (omega arith) (λ e. refl) h (λ e. absurd (omega arith)))
       (λ h. k)
 
 -- ---- ready frames
@@ -222,7 +225,7 @@ module _ (d : Device) (k : Kept d) (f : ℕ) where
       chosen (Out f) (eqb (d .configured) 0) _ _
       (λ c. chosen (Out f) (has d 32) _ _
       (λ h. record {
-        device = placed-kept d k (decoded f .offset) 1 (omega arith) (omega arith) (λ i. absurd (omega arith)) (λ i. h)
+        device = placed-kept d k (decoded f .offset) 1 (omega arith) (omega arith) (λ i. absurd (omega arith)) h
             (λ i. omega arith);
         frame = λ i. omega arith;
       })
@@ -269,10 +272,10 @@ module _ (d : Device) (k : Kept d) (f : ℕ) where
 
 -- ---- whichever rule is selected
 
-take-out : (d : Device) (f : ℕ) → Kept d → Out f (takes d f)
-unfolding takes hasC1
-take-out d f k =
-    selected (Out f) (kindAt f) (rules d f (decoded f)) (sends d f) (passes d f k)
+simple-out : (d : Device) (f : ℕ) → Kept d → Out f (takesSimple d f)
+unfolding takesSimple hasC1
+simple-out d f k =
+    selected (Out f) (kindAt f) (rules d f (decoded f)) (sends d f) (λ u. passes d f k)
     (λ e. passes _ f (lad-kept d k _))
     (λ e. passes _ f (deaf-kept d k))
     (λ e. passes _ f (tad-kept d k _))
@@ -298,6 +301,126 @@ take-out d f k =
     (λ e. data-out d k f _ (shows f (ap hasC1 e)))
     (λ e. data-out d k f _ (shows f (ap hasC1 e)))
     (λ e. marked-out d k f _ (answers d (shows f (ap hasC1 e))))
+
+-- ---- an extended device's own rules
+
+-- flags are put in front of the second addresses
+module _ (d : Device) (k : Kept d) (x : hasFurther d extended ≡ true) where
+  flagging-kept : (l t : ℕ) → l ≤ 32 → t ≤ 32 → l % 32 ≡ 0 → t % 32 ≡ 0 → Kept (flagging d l t)
+  flagging-kept l t m n e i =
+      let p = doubly-of d (rw x at (k .placed .variant)) in
+      spot-kept d k x (d .address) (d .configured) (d .fixedsecond % 32 + l) (d .second % 32 + t)
+      (k .placed .address) (k .placed .configured) (λ c. eqb-true _ _ (eq-out (k .placed .unconf) c))
+      (omega arith) (omega arith)
+      (λ c. let q = eqb-true (d .second % 32) (d .fixedsecond % 32) (eq-out (p .unconf) c) in omega arith)
+      (λ c. let b = eq-out (p .conf) c in (
+        ltb-true _ _ (left (ltb (d .address) 31) _ b),
+        let q = ltb-true (d .second % 32) 31 (right (ltb (d .address) 31) _ b) in omega arith,
+      ))
+
+  lost-kept : Kept (primaryIdle d)
+  lost-kept = flagging-kept 0 0 (omega arith) (omega arith) refl refl
+
+  lost-idle : Kept (talking (primaryIdle d) 0)
+  lost-idle = idle-kept (primaryIdle d) lost-kept
+
+  extended-tad-kept : (a : ℕ) → Kept (extendedTad d a)
+  unfolding extendedTad
+  extended-tad-kept a =
+      chosen Kept (eqb a (d .address)) _ _
+      (λ e. chosen Kept (talks d) _ _ (λ h. flagging-kept 0 32 (omega arith) (omega arith) refl refl) (λ h. lost-idle))
+      (λ e. lost-idle)
+
+  extended-aau-kept : Kept (extendedAau d)
+  extended-aau-kept =
+      let p = doubly-of d (rw x at (k .placed .variant)) in
+      spot-kept d k x (d .fixed) 0 (d .fixedsecond % 32 + 0)
+      ((((d .second % 32 + 0) / 32) * 32) + d .fixedsecond % 32) (k .made .fixed) (omega arith) (λ c. refl)
+      (omega arith) (omega arith) (λ c. omega arith) (λ c. absurd (omega arith))
+
+  aes-out : (f : ℕ) → Of Aes f → Out f (aes d f (decoded f .offset))
+  unfolding aes
+  aes-out f e =
+      let w = aes-codes f e in
+      let a = aes-address f e in
+      let p = doubly-of d (rw x at (k .placed .variant)) in
+      chosen (Out f) (eqb (d .configured) 0) _ _
+      (λ c. record {
+        device = spot-kept d k x (d .address) 2 (d .fixedsecond) ((d .second / 32) * 32 + decoded f .offset)
+            (k .placed .address) (omega arith) (λ c. absurd (omega arith)) (p .fixedsecond) (omega (arith, p .second))
+            (λ c. absurd (omega arith)) (λ c. absurd (omega arith));
+        frame = λ i. omega arith;
+      })
+      (λ c. passes d f k)
+
+  aep-kept : (a : ℕ) → a < 31 → Kept (aep d a)
+  unfolding aep
+  aep-kept a h =
+      let p = doubly-of d (rw x at (k .placed .variant)) in
+      chosen Kept (eqb (d .configured) 2) _ d
+      (λ c. chosen Kept (ltb (d .second % 32) 31) _ d
+      (λ l. spot-kept d k x a 1 (d .fixedsecond) (d .second) (omega arith) (omega arith) (λ c. absurd (omega arith))
+      (p .fixedsecond) (p .second) (λ c. absurd (omega arith)) (λ c. (h, ltb-true (d .second % 32) 31 l)))
+      (λ l. k))
+      (λ c. k)
+
+remote-extended : (d : Device) → hasFurther d extended ≡ true → hasFurther (toRemote d) extended ≡ true
+unfolding toRemote
+remote-extended d x = chosen (λ y. hasFurther y extended ≡ true) (eqb (d .enabled) 1) _ d (λ e. x) (λ e. x)
+
+extended-lad-kept : (d : Device) → Kept d → hasFurther d extended ≡ true → (a : ℕ) → Kept (extendedLad d a)
+unfolding extendedLad
+extended-lad-kept d k x a =
+    chosen Kept (eqb a (d .address)) _ _
+    (λ e. chosen Kept (has d 1) _ _
+    (λ h. flagging-kept (toRemote d) (remote-kept d k) (remote-extended d x) 32 0 (omega arith) (omega arith) refl refl)
+    (λ h. lost-kept d k x))
+    (λ e. lost-kept d k x)
+
+module _ (d : Device) (k : Kept d) where
+  sad-listens-kept : Kept (sadListens d)
+  unfolding sadListens
+  sad-listens-kept =
+      chosen Kept (leb 32 (d .fixedsecond)) _ d
+      (λ l. chosen Kept (has d 1) _ d
+      (λ h. let s = listening-kept d k 1 (omega arith) (λ e. h) in
+      chosen Kept (has d 64) _ _ (λ u. idle-kept (listening d 1) s) (λ u. s))
+      (λ h. k))
+      (λ l. k)
+
+  sad-talks-kept : Kept (sadTalks d)
+  unfolding sadTalks
+  sad-talks-kept =
+      chosen Kept (leb 32 (d .second)) _ d
+      (λ l. chosen Kept (talks d) _ d
+      (λ h. chosen Kept (has d 64) _ _
+      (λ u. resting-kept (listening d 0) (deaf-kept d k) 1 (omega arith) (λ e. h))
+      (λ u. resting-kept d k 1 (omega arith) (λ e. h)))
+      (λ h. k))
+      (λ l. k)
+
+sad-kept : (d : Device) → Kept d → hasFurther d extended ≡ true → (a : ℕ) → Kept (sad d a)
+unfolding sad
+sad-kept d k x a =
+    chosen Kept (eqb a (d .second % 32)) _ _ (λ e. sad-talks-kept (sadListens d) (sad-listens-kept d k))
+    (λ e. chosen Kept (leb 32 (d .second)) _ _ (λ t. lost-idle d k x) (λ t. lost-kept d k x))
+
+extended-out : (d : Device) (f : ℕ) → Kept d → hasFurther d extended ≡ true → Out f (takesExtended d f)
+unfolding takesExtended heeding
+extended-out d f k x =
+    selected (Out f) (kindAt f) (extendedRules d f (decoded f)) (takesSimple (heeding d (kindAt f)) f)
+    (λ u. chosen (λ (c : Device). Out f (takesSimple c f)) (isCommand (kindAt f)) (primaryIdle d) d
+    (λ c. simple-out (primaryIdle d) f (lost-kept d k x)) (λ c. simple-out d f k))
+    (λ e. passes _ f (extended-lad-kept d k x _))
+    (λ e. passes _ f (extended-tad-kept d k x _))
+    (λ e. passes _ f (sad-kept d k x _))
+    (λ e. passes _ f (extended-aau-kept d k x))
+    (λ e. passes d f k)
+    (λ e. aes-out d k x f e)
+    (λ e. passes _ f (aep-kept d k x _ (aep-address f e)))
+
+take-out : (d : Device) (f : ℕ) → Kept d → Out f (takes d f)
+take-out d f k = by-variant (Out f) d f (λ x. extended-out d f k x) (λ x. simple-out d f k)
 
 -- ---- the theorems
 

@@ -19,12 +19,12 @@ module _ (d : Device) (p : Polled d) where
   -- with the ability
   pub able-poll : (x s : ℕ) → hasFurther d parallelPoll ≡ true → isAssignment x ≡ true → s ≤ 1 →
       pollRight (pollstatusing (assigning d x) s) ≡ true
-  able-poll x s a h l = rw (le-leb _ _ (p .further), h, le-leb _ _ l, a)
+  able-poll x s a h l = rw (h, le-leb _ _ l, a)
 
   -- without sense and bit
   pub none-poll : pollRight (assigning d unassigned) ≡ true
   none-poll =
-      rw (le-leb _ _ (p .further), le-leb _ _ (p .status))
+      rw (le-leb _ _ (p .status))
       (go (not (hasFurther d parallelPoll)) (eqb (d .assigned) 0) (eqb (d .pollstatus) 0) (p .able))
     where
       go : (n x y : Bool) → only n (x && y) ≡ true → only n y ≡ true

@@ -1,11 +1,12 @@
 -- The set-up of line 1: refused but for a number of devices that a loop can have, and otherwise the same whatever the
 -- area held before.
 use Prim.Native.Nat.{ℕ, _+_, _-_, _*_, _≤_, _<_}
-use mathlib.Core.Logic.{⊎-elim}
+use mathlib.Core.Logic.{_⊎_, inl, inr, ⊎-elim}
 use mathlib.Core.Path.{_≡_, refl, ap, _∙_}
 use mathlib.Core.List.{List, [], _∷_, map}
 use mathlib.Core.Bool.{Bool, true, false, _&&_, cond}
 use native.Mathlib.Omega.{arith}
+use native.Mathlib.Decide.{decLt}
 use lib.Dec.{eqb}
 use lib.ListN.{length, replicate, length-map, length-replicate}
 use borrow.Author.Tests.{eq-eqb, eqb-true, le-leb}
@@ -20,7 +21,7 @@ use Rattle.area.specs.Loop.{shape, unsound, areaOf}
 use Rattle.area.proofs.Parts.{length-join, length-parts}
 use Rattle.calls.specs.Outcome.{after}
 use Rattle.calls.specs.SetUp.{devicesFor, isItems, itemWidth, itemsOf, itemsFit, poweredOn, setUpOf, setUpWith}
-use Rattle.calls.proofs.Powered.{width-either, width-all, set-up-sound, items-fit as what-fits}
+use Rattle.calls.proofs.Powered.{width-one, width-all, set-up-sound, items-fit as what-fits}
 use Rattle.text.specs.Words.{loopWord, begins}
 use Rattle.text.specs.Digits.{numberAt}
 use Rattle.script.specs.Script.{wordSize, devicesIn, groupsIn, groupSize, groupRight, loopRight, itemOf, itemsIn}
@@ -32,12 +33,34 @@ pub items-long : (line : List ℕ) → length (itemsIn line) ≡ itemSize * devi
 items-long line = length-join itemOf itemSize (λ g. refl) (groupsIn line) ∙
     ap (λ k. itemSize * k) (length-parts groupSize (devicesIn line) _)
 
+-- what lies between two multiples of 12 is none
+no-part : (k n x : ℕ) → 12 * k < x → x < 12 * k + 12 → 12 * n ≡ x → ⊥
+no-part k n x l h e = go (decLt k n)
+  where
+    go : Dec (k < n) → ⊥
+    go (yes m) = omega arith
+    go (no m) = omega arith
+
 -- the wrong number of devices
 pub set-up-refused : (a items : List ℕ) (n : ℕ) → length items ≡ itemSize * n → ((1 ≤ n) → (n ≤ mostDevices) → ⊥) →
-    setUpOf a items ≡ after shape a
+    (mostDevices < n → areaSize mostDevices ≤ length a) → setUpOf a items ≡ after shape a
 unfolding setUpWith
-set-up-refused a items n e no-fit = go (itemsFit mostDevices (devicesFor (length a)) a items) refl
+set-up-refused a items n e no-fit long = go (itemsFit mostDevices (devicesFor (length a)) a items) refl
   where
+    -- there are none, or more than the area, which is as long as any, has items for
+    wrong : (m : ℕ) → 1 ≤ m → m ≤ mostDevices → length a ≡ areaSize m →
+        (length items ≡ 12 * m) ⊎ ((length items ≡ 13 * m) ⊎ (length items ≡ 14 * m)) → ⊥
+    wrong m s f l w = over (decLt mostDevices n)
+      where
+        over : Dec (mostDevices < n) → ⊥
+        over (yes h) =
+            let k = long h in
+            let q : m ≡ mostDevices = omega arith in
+            ⊎-elim (λ i. omega arith)
+            (⊎-elim (λ i. no-part 33 n 403 (omega arith) (omega arith) (omega arith))
+            (λ i. no-part 36 n 434 (omega arith) (omega arith) (omega arith))) w
+        over (no h) = no-fit (⊎-elim (λ i. omega arith) (⊎-elim (λ i. omega arith) (λ i. omega arith)) w) (omega arith)
+
     go : (t : Bool) → itemsFit mostDevices (devicesFor (length a)) a items ≡ t →
         cond t
         (cond (all allowed (itemsOf (devicesFor (length a)) items))
@@ -48,14 +71,9 @@ set-up-refused a items n e no-fit = go (itemsFit mostDevices (devicesFor (length
         let m = devicesFor (length a) in
         let f = what-fits mostDevices m a items p in
         let l = width-all (length items) m (f .items) in
-        ⊎-elim
-        (λ w. let h : length items ≡ 12 * m = rw w at l in
-        absurd (no-fit (omega (arith, f .some)) (omega (arith, f .few))))
-        (λ w. let h : length items ≡ 13 * m = rw w at l in
-        let q : 12 * (n - m) ≡ m = omega arith in
-        let k : n - m ≤ 2 = omega (arith, f .few) in
-        absurd (no-fit (omega (arith, f .some)) (omega arith)))
-        (width-either (length items) m)
+        absurd (wrong m (f .some) (f .few) (f .area)
+        (⊎-elim (λ w. inl (rw w at l)) (⊎-elim (λ w. inr (inl (rw w at l))) (λ w. inr (inr (rw w at l))))
+        (width-one (length items) m)))
 
 -- the right number
 pub items-fit : (a items : List ℕ) (n : ℕ) → 1 ≤ n → n ≤ mostDevices → length a ≡ areaSize n →

@@ -6,7 +6,7 @@ use mathlib.Core.List.{List, [], _++_, append-nil}
 use mathlib.Core.Bool.{Bool, true, false, cond}
 use native.Mathlib.Omega.{arith}
 use lib.Dec.{ltb, leb}
-use lib.ListN.{length, take, drop, replicate, length-append, length-drop, length-replicate, drop-of-length-le}
+use lib.ListN.{length, take, drop, replicate, length-append, length-drop, length-replicate, drop-of-length-le, length-take}
 use lib.Seq.{length-take-le}
 use borrow.Author.Tests.{ltb-true, ltb-false, leb-true, leb-false, le-leb}
 use Rattle.bytes.specs.Bytes.{indexOf}
@@ -114,8 +114,10 @@ module _ (input area : List ℕ) (room : ℕ) (lent : areaRoom ≤ length area) 
         Begun
     none wrong =
         rw (
-          set-up-refused (take (areaSize n) area) (itemsIn line) n (items-long line) wrong,
-          set-up-refused (replicate (areaSize n) 0) (itemsIn line) n (items-long line) wrong,
+          set-up-refused (take (areaSize n) area) (itemsIn line) n (items-long line) wrong
+              (λ m. rw length-take (omega arith)),
+          set-up-refused (replicate (areaSize n) 0) (itemsIn line) n (items-long line) wrong
+              (λ m. rw (length-replicate {A = ℕ} (areaSize n) 0) (omega arith)),
         )
         (alone (badLine 1) area)
 

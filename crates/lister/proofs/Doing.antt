@@ -86,10 +86,10 @@ module _ (line : List ℕ) where
       omega arith
 
   -- a wrong line 1
-  pub first-wrong : (area : List ℕ) → loopIn line ≡ LoopLine.Wrong →
+  pub first-wrong : (area : List ℕ) → areaRoom ≤ length area → loopIn line ≡ LoopLine.Wrong →
       firstDoes line area ≡ does (badLine 1) Next.End area
   unfolding firstDoes
-  first-wrong area h = go (loopRight line) range refl refl h
+  first-wrong area lent h = go (loopRight line) range refl refl h
     where
       go : (t u : Bool) → loopRight line ≡ t → range ≡ u →
           cond (t && u) (LoopLine.Devices (devicesIn line)) LoopLine.Wrong ≡ LoopLine.Wrong →
@@ -98,7 +98,7 @@ module _ (line : List ℕ) where
       go true true p q e = let z : _≡_ {A = ℕ} 0 1 = cc in absurd (omega arith)
       go true false p q e =
           rw (set-up-refused (take (areaSize (devicesIn line)) area) (itemsIn line) (devicesIn line) (items-long line)
-          (no-range q))
+          (no-range q) (λ m. rw length-take (omega arith)))
       go false u p q e = refl
 
   -- a set-up that is refused, or not

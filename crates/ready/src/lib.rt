@@ -10,7 +10,7 @@ ghost use mathlib.Core.Path.{_≡_};
 ghost use Prim.Native.Nat.{_<_};
 ghost use lib.ListN.{length};
 ghost use Rattle.device.specs.Ready.{requested, polls, sst, nrd, aad};
-ghost use Rattle.device.specs.Take.{takes};
+ghost use Rattle.device.specs.Take.{takesSimple};
 ghost use Rattle.frame.specs.Classes.{IsReady};
 ghost use Rattle.device.specs.declared.Device.{Device};
 ghost use Rattle.record.specs.Record.{recordSize};
@@ -77,10 +77,10 @@ fn aad(state: State, rec: &[u8], frame: u16, address: u8) -> Passed
     sends(state, frame)
 }
 
-// What a device does with a ready frame.
+// What a simple device does with a ready frame.
 pub fn ready(state: State, rec: &[u8], frame: u16) -> Passed
     requires { ⌜ (length (now rec) ≡ recordSize) × IsReady frame ⌝ }
-    ensures { λ r. ⌜ sentFrom (now (rec .entry)) r ≡ takes (inRecord (now (rec .entry)) state) frame ⌝ }
+    ensures { λ r. ⌜ sentFrom (now (rec .entry)) r ≡ takesSimple (inRecord (now (rec .entry)) state) frame ⌝ }
 {
     match frame::kind_of(frame) {
         Kind::Sda => requested(state, rec, frame, Device::SEND_DATA, Device::SENDING_DATA),

@@ -1,24 +1,25 @@
 -- The laws of specs/Laws.antt. Head, ID and data stand at fixed places, so that each field is read where it was
--- written; a sound record's other bytes are zero, as those of a written one are.
+-- written, and no byte of a record is in none of them.
 use mathlib.Core.Path.{_≡_, refl, sym, ap, _∙_}
 use mathlib.Core.List.{List, [], _∷_, _++_}
-use mathlib.Core.Bool.{true, false, not, _&&_}
-use lib.Dec.{eqb}
+use mathlib.Core.Bool.{true, false, not, _&&_, and-true}
+use lib.Dec.{eqb, leb}
 use Prim.Native.Nat.{ℕ, _+_, _*_, _/_, _%_, _≤_, _<_}
 use native.Mathlib.Omega.{arith}
 use lib.ListN.{length, getD, take, drop, length-drop, length-replicate, take-append-drop}
 use lib.Seq.{drop-drop, take-all}
-use borrow.Author.Tests.{eqb-true, le-leb}
-use Rattle.device.specs.Device.{parallelPoll, mostID, mostData, hasFurther}
+use borrow.Author.Tests.{eqb-true, leb-true, not-true, le-leb, lt-ltb}
+use Rattle.device.specs.Device.{parallelPoll, extended, noAddress, mostID, mostData, hasFurther}
 use Rattle.device.specs.Poll.{unassigned}
 use Rattle.device.specs.PowerOn.{bytesFrom, powerOn}
 use Rattle.device.specs.declared.Device.{Device}
 use Rattle.device.proofs.Bytes.{bytes-wide, bytes-all, take-bytes}
-use Rattle.record.specs.Record.{headOf, deviceOf, recordOf, spare, zeros}
-use Rattle.record.specs.Sound.{only, pollRight, soundDevice, soundRecord, allowed}
+use Rattle.record.specs.Record.{headOf, deviceOf, recordOf, zeros}
+use Rattle.record.specs.Sound.{only, simpleRight, extendedRight, variantRight, pollRight, soundDevice, soundRecord}
+use Rattle.record.specs.Sound.{allowed}
 use Rattle.record.specs.Fits.{Bytes, Fits, Good}
 use Rattle.record.specs.Laws.{RecordWide, ReadWritten, WriteRead, WriteSound, ReadSound, GoodBytes, PowerOnSound}
-use Rattle.record.specs.Laws.{AnyRemote, AnyPoll, NoPoll}
+use Rattle.record.specs.Laws.{AnyRemote, AnyPoll, NoPoll, Variants, AnyHalf}
 use Rattle.record.proofs.Both.{left, right}
 use Rattle.record.proofs.Bytes.{small-bytes, zeros-small, bytes-small, bytes-append}
 
@@ -36,9 +37,10 @@ high-of lo hi h = omega arith
 whole : (f : ℕ) → f % 256 + 256 * (f / 256) ≡ f
 whole f = omega arith
 
-pub record-again : ReadWritten
+-- ID and data are as long as their places
+pub read-again : (d : Device) → length (d .id) ≡ mostID → length (d .load) ≡ mostData → deviceOf (recordOf d) ≡ d
 unfolding recordOf deviceOf bytesFrom
-record-again d f =
+read-again d idsize loadsize =
     λ i. record {
       abilities = d .abilities;
       fixed = d .fixed;
@@ -59,25 +61,24 @@ record-again d f =
       remote = d .remote;
       enabled = d .enabled;
       choice = d .choice;
+      fixedsecond = d .fixedsecond;
+      second = d .second;
       assigned = d .assigned;
       pollstatus = d .pollstatus;
-      id = sym (bytes-all mostID (d .id) (f .idsize)) i;
-      load = sym (bytes-all mostData (d .load) (f .loadsize)) i;
+      id = sym (bytes-all mostID (d .id) idsize) i;
+      load = sym (bytes-all mostData (d .load) loadsize) i;
     }
 
--- two zeros
-zeros-two : (a b : ℕ) → zeros (a ∷ b ∷ []) ≡ true → (a ≡ 0) × (b ≡ 0)
-unfolding zeros
-zeros-two a b h = (eqb-true a 0 (search left), eqb-true b 0 (search (left, right)))
+pub record-again : ReadWritten
+record-again d f = read-again d (f .idsize) (f .loadsize)
 
-module _ (b : List ℕ) (h : soundRecord b ≡ true) where
-  spare-zero : zeros (spare b) ≡ true
-  unfolding soundRecord
-  spare-zero = left (zeros (spare b)) (soundDevice (deviceOf b)) h
+pub read-sizes : (b : List ℕ) → (length (deviceOf b .id) ≡ mostID) × (length (deviceOf b .load) ≡ mostData)
+unfolding deviceOf
+read-sizes b = (bytes-wide 24 mostID b, bytes-wide 32 mostData b)
 
-  device-sound : soundDevice (deviceOf b) ≡ true
-  unfolding soundRecord
-  device-sound = right (zeros (spare b)) (soundDevice (deviceOf b)) h
+device-sound : (b : List ℕ) → soundRecord b ≡ true → soundDevice (deviceOf b) ≡ true
+unfolding soundRecord
+device-sound b h = h
 
 three : (b : List ℕ) → length b ≡ 64 → take 24 b ++ (take 8 (drop 24 b) ++ take 32 (drop 32 b)) ≡ b
 three b len =
@@ -88,13 +89,12 @@ three b len =
       take-append-drop,
     )
 
-head-back : (b : List ℕ) → length b ≡ 64 → Bytes b → soundRecord b ≡ true → headOf (deviceOf b) ≡ take 24 (drop 0 b)
+head-back : (b : List ℕ) → length b ≡ 64 → Bytes b → headOf (deviceOf b) ≡ take 24 (drop 0 b)
 unfolding deviceOf bytesFrom
-head-back b len small h =
-    let z = zeros-two (getD b 20 0) (getD b 21 0) (spare-zero b h) in
+head-back b len small =
     let lo = low-of (getD b 14 0) (getD b 15 0) (small 14) in
     let hi = high-of (getD b 14 0) (getD b 15 0) (small 14) in
-    let e : headOf (deviceOf b) ≡ bytesFrom 0 24 b = simp (lo, hi, z .0, z .1) in
+    let e : headOf (deviceOf b) ≡ bytesFrom 0 24 b = simp (lo, hi) in
     e ∙ sym (take-bytes 24 0 b (omega arith))
 
 -- a stretch of the record, read and written
@@ -103,17 +103,13 @@ stretch-back b k n h = sym (bytes-all n (bytesFrom k n b) (bytes-wide k n b)) �
 
 pub record-back : WriteRead
 unfolding recordOf deviceOf
-record-back b len small h =
+record-back b len small =
     rw (stretch-back b 24 8 (omega arith), stretch-back b 32 32 (omega arith))
-    (ap (λ (x : List ℕ). x ++ (take 8 (drop 24 b) ++ take 32 (drop 32 b))) (head-back b len small h) ∙ three b len)
-
-spared : (d : Device) → soundDevice d ≡ true → (zeros (spare (recordOf d)) && soundDevice d) ≡ true
-unfolding recordOf zeros
-spared d s = s
+    (ap (λ (x : List ℕ). x ++ (take 8 (drop 24 b) ++ take 32 (drop 32 b))) (head-back b len small) ∙ three b len)
 
 pub record-sound : WriteSound
 unfolding soundRecord
-record-sound d f s = rw (record-again d f) (spared d s)
+record-sound d f s = rw (record-again d f) s
 
 read-fits : (b : List ℕ) → Bytes b → Fits (deviceOf b)
 unfolding deviceOf
@@ -138,6 +134,8 @@ read-fits b h =
       remote = h 17;
       enabled = h 18;
       choice = h 19;
+      fixedsecond = h 20;
+      second = h 21;
       assigned = h 22;
       pollstatus = h 23;
       id = bytes-small b 24 mostID h;
@@ -176,6 +174,36 @@ poll-zero d h n =
     let a = eqb (d .assigned) unassigned in
     let s = eqb (d .pollstatus) 0 in
     (eqb-true (d .assigned) unassigned (left a s z), eqb-true (d .pollstatus) 0 (right a s z))
+
+-- the clause on a device's variant, of a sound one
+sound-variant : (d : Device) → soundDevice d ≡ true → variantRight d ≡ true
+unfolding soundDevice
+sound-variant d h = search (left, right) depth 24
+
+simple-right : (d : Device) → hasFurther d extended ≡ false → variantRight d ≡ true → simpleRight d ≡ true
+simple-right d e h = rw e at h
+
+extended-right : (d : Device) → hasFurther d extended ≡ true → variantRight d ≡ true → extendedRight d ≡ true
+extended-right d e h = rw e at h
+
+seconds-none : (d : Device) → simpleRight d ≡ true → (d .fixedsecond ≡ 0) × (d .second ≡ 0) × (d .configured ≤ 1)
+seconds-none d h = (
+  eqb-true (d .fixedsecond) 0 (search (left, right)),
+  eqb-true (d .second) 0 (search (left, right)),
+  leb-true (d .configured) 1 (search (left, right)),
+)
+
+pub variants : Variants
+variants =
+    record {
+      simple = λ d h e. seconds-none d (simple-right d e (sound-variant d h));
+      as-before = λ d e x y c. rw (e, x, y, le-leb (d .configured) 1 c) (simp and-true);
+      no-auto-address = λ d h e. not-true _ (left _ _ (extended-right d e (sound-variant d h)));
+    }
+
+pub any-half : AnyHalf
+unfolding soundDevice
+any-half d a x y e h i j = rw (e, le-leb _ _ h, lt-ltb _ _ i, lt-ltb _ _ j)
 
 pub no-poll : NoPoll
 no-poll =
@@ -218,6 +246,8 @@ power-good item h a =
             remote = omega arith;
             enabled = omega arith;
             choice = omega arith;
+            fixedsecond = h 13;
+            second = h 13;
             assigned = omega arith;
             pollstatus = omega arith;
             id = bytes-small item 4 mostID h;
@@ -225,5 +255,5 @@ power-good item h a =
             idsize = bytes-wide 4 mostID item;
             loadsize = length-replicate {A = ℕ} mostData 0;
           };
-      sound = a;
+      sound = right (leb (getD item 13 0) noAddress) (soundDevice (powerOn item)) a;
     }

@@ -34,6 +34,8 @@ pub record Fits (d : Device) : Type 0 where
   pub remote : d .remote < 256
   pub enabled : d .enabled < 256
   pub choice : d .choice < 256
+  pub fixedsecond : d .fixedsecond < 256
+  pub second : d .second < 256
   pub assigned : d .assigned < 256
   pub pollstatus : d .pollstatus < 256
   pub id : Bytes (d .id)

@@ -39,6 +39,8 @@ deviceOf b =
       remote = getD b 17 0;
       enabled = getD b 18 0;
       choice = getD b 19 0;
+      fixedsecond = getD b 20 0;
+      second = getD b 21 0;
       assigned = getD b 22 0;
       pollstatus = getD b 23 0;
       id = bytesFrom 24 mostID b;
@@ -50,16 +52,13 @@ abbrev pub headOf : Device → List ℕ
 headOf d =
     d .abilities ∷ d .fixed ∷ d .address ∷ d .configured ∷ d .listener ∷ d .talker ∷ d .service ∷ d .further ∷
     d .noted ∷ d .status ∷ d .accessory ∷ d .idlength ∷ d .loadlength ∷ d .sent ∷ d .last % 256 ∷ d .last / 256 ∷
-    d .replied ∷ d .remote ∷ d .enabled ∷ d .choice ∷ 0 ∷ 0 ∷ d .assigned ∷ d .pollstatus ∷
+    d .replied ∷ d .remote ∷ d .enabled ∷ d .choice ∷ d .fixedsecond ∷ d .second ∷ d .assigned ∷
+    d .pollstatus ∷
     []
 
 -- all its bytes: ID and data stand behind
 unfoldable pub recordOf : Device → List ℕ
 recordOf d = headOf d ++ (bytesFrom 0 mostID (d .id) ++ bytesFrom 0 mostData (d .load))
-
--- bytes 20 and 21, which hold no value
-abbrev pub spare : List ℕ → List ℕ
-spare b = getD b 20 0 ∷ getD b 21 0 ∷ []
 
 -- each byte is zero
 unfoldable pub zeros : List ℕ → Bool

@@ -1,39 +1,40 @@
--- When a record is sound: the clauses of 01's "Sound means" on a record, in its order, with the values of 02, d, f and
--- h, and its zero bytes; a set-up item is judged by the same clauses. That frames are below 2,048 area says of links.
-use Prim.Native.Nat.{ℕ}
+-- When a record is sound: the clauses of 01's "Sound means" on a record, in its order, with the values of 02, d, f, h
+-- and i; a set-up item is judged by the same clauses. That frames are below 2,048 area says of links.
+use Prim.Native.Nat.{ℕ, _+_, _*_}
 use mathlib.Core.List.{List}
-use mathlib.Core.Bool.{Bool, not, _&&_, _||_}
+use mathlib.Core.Bool.{Bool, not, cond, _&&_, _||_}
 use lib.Dec.{eqb, ltb, leb}
-use lib.ListN.{drop}
+use lib.ListN.{getD, drop}
 use Rattle.device.specs.Device.{listen, sendData, status, deviceID, accessoryID, autoAddress, unaddress, serviceRequest}
 use Rattle.device.specs.Device.{addressed, sendingData, sendingStatus, sendingDeviceID, sendingAccessoryID, noService}
-use Rattle.device.specs.Device.{polled, parallelPoll, RWLS, isChoice, noAddress, mostID, mostData, has, hasFurther}
-use Rattle.device.specs.Device.{talks, sending}
+use Rattle.device.specs.Device.{polled, parallelPoll, extended, RWLS, isChoice, noAddress, halfAssigned, received}
+use Rattle.device.specs.Device.{mostID, mostData, has, hasFurther, talks, fixedSecond, presentSecond, sending}
 use Rattle.device.specs.Poll.{assignment, unassigned}
 use Rattle.device.specs.PowerOn.{powerOn}
 use Rattle.device.specs.declared.Device.{Device}
-use Rattle.record.specs.Record.{deviceOf, spare, zeros}
+use Rattle.record.specs.Record.{deviceOf, zeros}
 
 -- the first only with the second
 abbrev pub only : Bool → Bool → Bool
 only a b = not a || b
 
--- those ranges: addresses 0-31, configured and listener 0/1, talker 0-5, service 0-2, NRD seen 0/1, lengths 0-8 and
--- 0-32; and remote and local 0-3, remote enable 0/1, the choice 0/1
+-- those ranges: addresses 0-31, configured 0-2, listener 0/1, talker 0-5, service 0-2, further abilities 0-3, NRD seen
+-- 0/1, lengths 0-8 and 0-32; and remote and local 0-3, remote enable 0/1, the choice 0/1
 abbrev pub inRange : Device → Bool
 inRange d =
     leb (d .fixed) noAddress &&
     (leb (d .address) noAddress &&
-    (leb (d .configured) 1 &&
+    (leb (d .configured) halfAssigned &&
     (leb (d .listener) 1 &&
     (leb (d .talker) sendingAccessoryID &&
     (leb (d .service) polled &&
+    (leb (d .further) (parallelPoll + extended) &&
     (leb (d .noted) 1 &&
     (leb (d .idlength) mostID &&
     (leb (d .loadlength) mostData &&
     (leb (d .remote) RWLS &&
     (leb (d .enabled) 1 &&
-    isChoice (d .choice)))))))))))
+    isChoice (d .choice))))))))))))
 
 -- ID and data are zero past their length
 abbrev pub zeroPast : Device → Bool
@@ -54,6 +55,35 @@ unconfiguredFixed d = only (eqb (d .configured) 0) (eqb (d .address) (d .fixed))
 -- configured only with 32 and an address 0-30
 abbrev pub configuredAble : Device → Bool
 configuredAble d = only (eqb (d .configured) 1) (has d autoAddress && ltb (d .address) noAddress)
+
+-- a simple device (02, i): that, configured 0/1, and no second address
+abbrev pub simpleRight : Device → Bool
+simpleRight d =
+    configuredAble d &&
+    (leb (d .configured) 1 &&
+    (eqb (d .fixedsecond) 0 &&
+    eqb (d .second) 0))
+
+-- an extended one: unconfigured has its second address equal to the fixed one too,
+abbrev pub unconfiguredSecond : Device → Bool
+unconfiguredSecond d = only (eqb (d .configured) 0) (eqb (presentSecond d) (fixedSecond d))
+
+-- configured both addresses 0-30, and half assigned any;
+abbrev pub configuredBoth : Device → Bool
+configuredBoth d = only (eqb (d .configured) 1) (ltb (d .address) noAddress && ltb (presentSecond d) noAddress)
+
+-- no 32; second addresses 0-31, with their flags below 64
+abbrev pub extendedRight : Device → Bool
+extendedRight d =
+    not (has d autoAddress) &&
+    (ltb (d .fixedsecond) (2 * received) &&
+    (ltb (d .second) (2 * received) &&
+    (unconfiguredSecond d &&
+    configuredBoth d)))
+
+-- each device as its variant asks
+abbrev pub variantRight : Device → Bool
+variantRight d = cond (hasFurther d extended) (extendedRight d) (simpleRight d)
 
 -- listener, service and sending states only with their ability
 abbrev pub listenerAble : Device → Bool
@@ -101,13 +131,12 @@ lastBelow d = ltb (d .last) 0x400
 abbrev pub isAssignment : ℕ → Bool
 isAssignment x = eqb x unassigned || (leb (assignment 0) x && leb x (assignment 15))
 
--- of the further abilities only poll; poll status 0/1; it, sense and bit zero without the ability
+-- that, and poll status 0/1; both zero without the ability
 abbrev pub pollRight : Device → Bool
 pollRight d =
-    leb (d .further) parallelPoll &&
-    (isAssignment (d .assigned) &&
+    isAssignment (d .assigned) &&
     (leb (d .pollstatus) 1 &&
-    only (not (hasFurther d parallelPoll)) (eqb (d .assigned) unassigned && eqb (d .pollstatus) 0)))
+    only (not (hasFurther d parallelPoll)) (eqb (d .assigned) unassigned && eqb (d .pollstatus) 0))
 
 -- a device is sound: all of these
 unfoldable pub soundDevice : Device → Bool
@@ -117,7 +146,7 @@ soundDevice d =
     (serviceWithStatus d &&
     (unaddressWithBoth d &&
     (unconfiguredFixed d &&
-    (configuredAble d &&
+    (variantRight d &&
     (listenerAble d &&
     (serviceAble d &&
     (sendingAble d &&
@@ -129,10 +158,10 @@ soundDevice d =
     (lastBelow d &&
     pollRight d))))))))))))))
 
--- a record is sound: its spare bytes are zero, and its device is sound
+-- a record is sound: its device is, whose values are all its bytes
 unfoldable pub soundRecord : List ℕ → Bool
-soundRecord b = zeros (spare b) && soundDevice (deviceOf b)
+soundRecord b = soundDevice (deviceOf b)
 
--- a set-up item is allowed: its device at power-on is sound
+-- a set-up item is allowed: its second address is 0-31, and its device at power-on is sound
 unfoldable pub allowed : List ℕ → Bool
-allowed item = soundDevice (powerOn item)
+allowed item = leb (getD item 13 0) noAddress && soundDevice (powerOn item)

@@ -49,6 +49,10 @@ pub const ENABLED: usize = 18;
 
 pub const CHOICE: usize = 19;
 
+pub const FIXED_SECOND: usize = 20;
+
+pub const SECOND: usize = 21;
+
 pub const ASSIGNED: usize = 22;
 
 pub const POLL_STATUS: usize = 23;

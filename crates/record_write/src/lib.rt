@@ -79,8 +79,8 @@ pub fn write(rec: &mut [u8], d: Device)
         d.remote,
         d.enabled,
         d.choice,
-        0,
-        0,
+        d.fixedsecond,
+        d.second,
         d.assigned,
         d.pollstatus,
     ];

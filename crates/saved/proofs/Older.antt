@@ -76,7 +76,7 @@ asked-sound b l small s = go (ltb 0 (getD b loadlength 0))
     go true =
         let g = choice-good (deviceOf b) endLast (omega arith) (read-good b small s) in
         let e : set b choice endLast ≡ recordOf (choosing (deviceOf b) endLast) =
-        rw (record-back b l small s) at (choice-put (deviceOf b)) in
+        rw (record-back b l small) at (choice-put (deviceOf b)) in
         rw e (record-sound (choosing (deviceOf b) endLast) (g .fits) (g .sound))
     go false = s
 

@@ -1,8 +1,9 @@
-// Set up: an item a device, and an area with any contents, which becomes that of the devices at power-on (02, f: items
-// of 12 bytes or of 13).
+// Set up: an item a device, and an area with any contents, which becomes that of the devices at power-on (02, f and i:
+// items of 12 bytes, of 13 or of 14).
 use area::ITEM_SIZE;
 use area::LINK_SIZE;
 use area::LONG_ITEM_SIZE;
+use area::POLL_ITEM_SIZE;
 use area::SHAPE;
 use area::UNSOUND;
 use area::area_size;
@@ -34,12 +35,12 @@ fn devices_for(len: usize) -> usize
     (len - least) / (record::SIZE + LINK_SIZE)
 }
 
-// Whether so many bytes are n items, all of 12 bytes or all of 13.
+// Whether so many bytes are n items, all of 12 bytes, all of 13 or all of 14.
 fn is_items(bytes: usize, n: usize) -> bool
     requires { ⌜ n ≤ mostDevices ⌝ }
     ensures { λ r. ⌜ r ≡ isItems bytes n ⌝ }
 {
-    (bytes == ITEM_SIZE * n) | (bytes == LONG_ITEM_SIZE * n)
+    (bytes == ITEM_SIZE * n) | ((bytes == POLL_ITEM_SIZE * n) | (bytes == LONG_ITEM_SIZE * n))
 }
 
 // Whether the area's length is that of n devices, and there is an item for each.
@@ -60,10 +61,13 @@ fn item_width(bytes: usize, n: usize) -> usize
     if bytes == LONG_ITEM_SIZE * n {
         return LONG_ITEM_SIZE;
     }
+    if bytes == POLL_ITEM_SIZE * n {
+        return POLL_ITEM_SIZE;
+    }
     ITEM_SIZE
 }
 
-// An item as one of 13 bytes: where it has 12, zero behind them.
+// An item as one of 14 bytes: where it has fewer, zeros behind them.
 fn item_of(bytes: &[u8]) -> [u8; LONG_ITEM_SIZE]
     requires { ⌜ length (now bytes) ≤ longItemSize ⌝ }
     ensures { λ r. ⌜ r ≡ bytesFrom 0 longItemSize (now (bytes .entry)) ⌝ }

@@ -1,4 +1,3 @@
--- The clauses of soundness in groups, those that go by whether the device is configured, and the one on poll.
+-- The clauses of soundness in groups, and the one on poll.
 mod Groups
-mod Addresses
 mod Polls

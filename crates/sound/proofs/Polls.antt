@@ -1,15 +1,16 @@
--- What the clause on poll comes to without the ability, with it, and with another number in its byte.
-use Prim.Native.Nat.{ℕ, _≤_, _<_}
+-- What the clause on poll comes to without the ability and with it.
+use Prim.Native.Nat.{_≤_}
 use native.Mathlib.Omega.{arith}
 use mathlib.Core.Path.{_≡_, refl}
 use mathlib.Core.Bool.{Bool, true, false, _&&_, _||_, and-true}
 use lib.Dec.{eqb, leb}
-use borrow.Author.Tests.{eqb-true, le-leb, lt-leb}
+use borrow.Author.Tests.{eqb-true, le-leb}
+use Rattle.device.specs.Device.{parallelPoll, hasFurther}
 use Rattle.device.specs.declared.Device.{Device}
 use Rattle.record.specs.Sound.{isAssignment, pollRight}
 
 module _ (d : Device) where
-  pub unable-right : d .further ≡ 0 → (eqb (d .assigned) 0 && eqb (d .pollstatus) 0) ≡ pollRight d
+  pub unable-right : hasFurther d parallelPoll ≡ false → (eqb (d .assigned) 0 && eqb (d .pollstatus) 0) ≡ pollRight d
   unable-right e =
       rw e
       (go (eqb (d .assigned) 0) (eqb (d .pollstatus) 0) (leb 16 (d .assigned) && leb (d .assigned) 31)
@@ -23,8 +24,5 @@ module _ (d : Device) where
       go false y true false h = refl
       go false y false l h = refl
 
-  pub able-right : d .further ≡ 1 → (isAssignment (d .assigned) && leb (d .pollstatus) 1) ≡ pollRight d
+  pub able-right : hasFurther d parallelPoll ≡ true → (isAssignment (d .assigned) && leb (d .pollstatus) 1) ≡ pollRight d
   able-right e = rw e (simp and-true)
-
-  pub neither-right : 1 < d .further → false ≡ pollRight d
-  neither-right h = rw (lt-leb (d .further) 1 h)

@@ -1,5 +1,6 @@
 // When a record is sound (01, "Sound means"), judged where it lies; the same clauses judge a set-up item. Each group of
 // clauses stands in a test of its own, so that the first that fails decides.
+use address_sound::address_right;
 use device::Device;
 use record::ABILITIES;
 use record::ADDRESS;
@@ -18,17 +19,18 @@ use record::REMOTE;
 use record::SERVICE;
 use record::TALKER;
 use record::read::has;
+use record::read::has_further;
 use talker_sound::talker_right;
-use zero_bytes::spare_zero;
 use zero_bytes::zero_past;
 use zero_bytes::zero_past_length;
 ghost use mathlib.Core.Path.{_≡_};
 ghost use lib.ListN.{length};
+ghost use Rattle.device.specs.PowerOn.{powerOn};
 ghost use Rattle.device.specs.declared.Device.{Device};
 ghost use Rattle.record.specs.Record.{recordSize, deviceOf};
 ghost use Rattle.record.specs.Sound.{inRange, serviceWithStatus, unaddressWithBoth, listenerAble, serviceAble};
 ghost use Rattle.record.specs.Sound.{pollRight, soundRecord, allowed};
-ghost use Rattle.sound.specs.Groups.{abilitiesAllowed, addressRight, ableAll};
+ghost use Rattle.sound.specs.Groups.{abilitiesAllowed, ableAll, variantAllowed};
 
 fn in_range(rec: &[u8]) -> bool
     requires { ⌜ length (now rec) ≡ recordSize ⌝ }
@@ -36,16 +38,17 @@ fn in_range(rec: &[u8]) -> bool
 {
     (rec[FIXED] <= Device::NO_ADDRESS)
         & ((rec[ADDRESS] <= Device::NO_ADDRESS)
-            & ((rec[CONFIGURED] <= 1)
+            & ((rec[CONFIGURED] <= Device::HALF_ASSIGNED)
                 & ((rec[LISTENER] <= 1)
                     & ((rec[TALKER] <= Device::SENDING_ACCESSORY_ID)
                         & ((rec[SERVICE] <= Device::POLLED)
-                            & ((rec[NOTED] <= 1)
-                                & ((rec[ID_LENGTH] <= Device::MOST_ID as u8)
-                                    & ((rec[LOAD_LENGTH] <= Device::MOST_DATA as u8)
-                                        & ((rec[REMOTE] <= Device::RWLS)
-                                            & ((rec[ENABLED] <= 1)
-                                                & (rec[CHOICE] <= Device::END_LAST)))))))))))
+                            & ((rec[FURTHER] <= Device::PARALLEL_POLL + Device::EXTENDED)
+                                & ((rec[NOTED] <= 1)
+                                    & ((rec[ID_LENGTH] <= Device::MOST_ID as u8)
+                                        & ((rec[LOAD_LENGTH] <= Device::MOST_DATA as u8)
+                                            & ((rec[REMOTE] <= Device::RWLS)
+                                                & ((rec[ENABLED] <= 1)
+                                                    & (rec[CHOICE] <= Device::END_LAST))))))))))))
 }
 
 // 128 only with 4.
@@ -79,19 +82,6 @@ fn abilities_allowed(abilities: u8) -> bool
         return unaddress_with_both(abilities);
     }
     false
-}
-
-// Unconfigured has the fixed address, configured one of 0-30 and ability 32.
-fn address_right(rec: &[u8]) -> bool
-    requires { ⌜ length (now rec) ≡ recordSize ⌝ }
-    ensures { λ r. ⌜ r ≡ addressRight (deviceOf (now (rec .entry))) ⌝ }
-{
-    let configured = rec[CONFIGURED];
-    match configured {
-        0 => rec[ADDRESS] == rec[FIXED],
-        1 => has(rec, Device::AUTO_ADDRESS) & (rec[ADDRESS] < Device::NO_ADDRESS),
-        _ => true,
-    }
 }
 
 fn listener_able(rec: &[u8]) -> bool
@@ -131,27 +121,26 @@ fn able(rec: &[u8]) -> bool
     false
 }
 
-// What the poll's three bytes ask for; without the ability, as most devices are, the other two are zero.
+// What the poll's bytes ask for; without the ability, as most devices are, both are zero.
 fn poll_right(rec: &[u8]) -> bool
     requires { ⌜ length (now rec) ≡ recordSize ⌝ }
     ensures { λ r. ⌜ r ≡ pollRight (deviceOf (now (rec .entry))) ⌝ }
 {
     let assigned = rec[ASSIGNED];
-    match rec[FURTHER] {
-        0 => (assigned == Device::UNASSIGNED) & (rec[POLL_STATUS] == 0),
-        1 => ((assigned == Device::UNASSIGNED)
+    if has_further(rec, Device::PARALLEL_POLL) {
+        return ((assigned == Device::UNASSIGNED)
             | ((Device::ASSIGNMENT <= assigned) & (assigned <= Device::ASSIGNMENT + 15)))
-            & (rec[POLL_STATUS] <= 1),
-        _ => false,
+            & (rec[POLL_STATUS] <= 1);
     }
+    (assigned == Device::UNASSIGNED) & (rec[POLL_STATUS] == 0)
 }
 
-// A record of 64 bytes is sound: its spare bytes are zero, and its device is sound.
+// A record of 64 bytes is sound: its device is.
 pub fn record_sound(rec: &[u8]) -> bool
     requires { ⌜ length (now rec) ≡ recordSize ⌝ }
     ensures { λ r. ⌜ r ≡ soundRecord (now (rec .entry)) ⌝ }
 {
-    if spare_zero(rec) & in_range(rec) {
+    if in_range(rec) {
         if zero_past(rec) {
             if able(rec) {
                 if talker_right(rec) {
@@ -166,13 +155,26 @@ pub fn record_sound(rec: &[u8]) -> bool
     false
 }
 
+// What an item asks for by its variant: an extended device has no ability 32, a simple one no second address.
+fn variant_allowed(item: &[u8]) -> bool
+    requires { ⌜ length (now item) ≡ 14 ⌝ }
+    ensures { λ r. ⌜ r ≡ variantAllowed (powerOn (now (item .entry))) ⌝ }
+{
+    if item[12] & Device::EXTENDED != 0 {
+        return (item[0] & Device::AUTO_ADDRESS == 0) & (item[13] <= Device::NO_ADDRESS);
+    }
+    item[13] == 0
+}
+
 // A set-up item is allowed: its device at power-on is sound. What else that asks is zero there.
 pub fn item_allowed(item: &[u8]) -> bool
-    requires { ⌜ length (now item) ≡ 13 ⌝ }
+    requires { ⌜ length (now item) ≡ 14 ⌝ }
     ensures { λ r. ⌜ r ≡ allowed (now (item .entry)) ⌝ }
 {
     (item[1] <= Device::NO_ADDRESS)
         & ((item[3] <= Device::MOST_ID as u8)
             & (zero_past_length(&item[4..12], item[3])
-                & (abilities_allowed(item[0]) & (item[12] <= Device::PARALLEL_POLL))))
+                & (abilities_allowed(item[0])
+                    & ((item[12] <= Device::PARALLEL_POLL + Device::EXTENDED)
+                        & variant_allowed(item)))))
 }

@@ -4,22 +4,25 @@ use Prim.Native.Nat.{ℕ}
 use mathlib.Core.Path.{_≡_, sym, ap, _∙_}
 use mathlib.Core.List.{List}
 use Rattle.device.specs.Sent.{Sent}
+use Rattle.device.specs.declared.Handed.{Handed}
 use Rattle.record.specs.Record.{deviceOf, recordOf}
-use Rattle.record.specs.Written.{written, IsRecord}
-use Rattle.state.specs.State.{values, sentFrom}
+use Rattle.record.specs.Written.{written}
+use Rattle.state.specs.State.{values}
 use Rattle.state.specs.declared.Passed.{Passed}
 use Rattle.state.proofs.Laws.{write-back}
+use Rattle.extended.specs.Own.{Does}
 use Rattle.taker.specs.InPlace.{InPlace}
 
-pub put-in : (b : List ℕ) (s : Sent) (p r : Passed) (c : List ℕ) → IsRecord b → sentFrom b p ≡ s → r ≡ p →
-    c ≡ written (values (p .state)) b → InPlace b s r c
-put-in b s p r c i e same h =
+pub put-in : (b : List ℕ) (s : Sent) (p r : Passed) (c : List ℕ) → Does s p b → r ≡ p →
+    c ≡ written (values (p .state)) b → InPlace s r c
+put-in b s p r c d same h =
     rw same
     (record {
-      passes = e;
+      passes =
+          record { frame = ap (λ (x : Sent). x .frame) (d .is); handed = ap (λ (x : Sent). x .handed) (d .is) };
       leaves =
           h
-          ∙ ap (written (values (p .state))) (sym (i .whole))
+          ∙ ap (written (values (p .state))) (sym (d .bytes .whole))
           ∙ write-back (deviceOf b) (p .state)
-          ∙ ap (λ (x : Sent). recordOf (x .device)) e;
+          ∙ ap (λ (x : Sent). recordOf (x .device)) (d .is);
     })

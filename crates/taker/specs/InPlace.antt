@@ -4,10 +4,14 @@ use mathlib.Core.Path.{_≡_}
 use mathlib.Core.List.{List}
 use Rattle.device.specs.Sent.{Sent}
 use Rattle.record.specs.Record.{recordOf}
-use Rattle.state.specs.State.{sentFrom}
 use Rattle.state.specs.declared.Passed.{Passed}
 
--- the device of record b passes p on, as it does s, and leaves record c
-pub record InPlace (b : List ℕ) (s : Sent) (p : Passed) (c : List ℕ) : Type 0 where
-  pub passes : sentFrom b p ≡ s
+-- a device that does s passes p on
+pub record Passes (s : Sent) (p : Passed) : Type 0 where
+  pub frame : p .frame ≡ s .frame
+  pub handed : p .handed ≡ s .handed
+
+-- and leaves record c
+pub record InPlace (s : Sent) (p : Passed) (c : List ℕ) : Type 0 where
+  pub passes : Passes s p
   pub leaves : c ≡ recordOf (s .device)

@@ -2,6 +2,9 @@
 use commands::command;
 use data::data_or_end;
 use data::identify;
+use extended::heed;
+use extended::own;
+use extended::owns;
 use ready::ready;
 use state::Passed;
 use state::State;
@@ -36,21 +39,24 @@ fn put_back(passed: Passed, rec: &mut [u8]) -> Passed
 }
 
 impl Taker {
-    // By the frame's class (001, control bits). Each class puts its state back by itself: the compiler then sees which
-    // values it cannot alter, and can leave some of them out.
+    // By the frame's class (001, control bits); an extended device's own rules come first (02, i). Each class puts its
+    // state back by itself: the compiler then sees which values it cannot alter, and can leave some of them out.
     pub fn take(self, rec: &mut [u8], frame: u16) -> Passed
         requires { ⌜ IsRecord (now rec) × IsData (self .0 .last) ⌝ }
-        ensures { λ r. ⌜ InPlace (now (rec .entry)) (takes (inRecord (now (rec .entry)) (self .0)) frame) r
-            (now (rec .exit)) ⌝ }
+        ensures { λ r. ⌜ InPlace (takes (inRecord (now (rec .entry)) (self .0)) frame) r (now (rec .exit)) ⌝ }
     {
         let state = self.0;
         if frame < COMMANDS {
             return put_back(data_or_end(state, rec, frame), rec);
         }
-        if frame < READY {
-            return put_back(command(state, rec, frame), rec);
-        }
         if frame < IDENTIFY {
+            if owns(rec, frame) {
+                return put_back(own(state, rec, frame), rec);
+            }
+            heed(rec, frame);
+            if frame < READY {
+                return put_back(command(state, rec, frame), rec);
+            }
             return put_back(ready(state, rec, frame), rec);
         }
         if frame < frame::FRAMES as u16 {
@@ -60,11 +66,11 @@ impl Taker {
     }
 }
 
-// The device of a record, whose last frame sent is a data byte as in every sound one, takes a frame; only bytes of its
-// state are written back.
+// The device of a record, whose last frame sent is a data byte as in every sound one, takes a frame; only bytes that a
+// frame can alter are written.
 pub fn take_in(rec: &mut [u8], frame: u16) -> Passed
     requires { ⌜ IsRecord (now rec) × IsData (deviceOf (now rec) .last) ⌝ }
-    ensures { λ r. ⌜ InPlace (now (rec .entry)) (takes (deviceOf (now (rec .entry))) frame) r (now (rec .exit)) ⌝ }
+    ensures { λ r. ⌜ InPlace (takes (deviceOf (now (rec .entry))) frame) r (now (rec .exit)) ⌝ }
 {
     Taker(State::read(rec)).take(rec, frame)
 }

@@ -13,7 +13,7 @@ use Rattle.frame.specs.Decoding.{hasC1, offsetIn, c1In}
 use Rattle.device.specs.Choose.{choose}
 use Rattle.device.specs.PowerOn.{powerOn, bytesFrom}
 use Rattle.device.specs.Ready.{aad}
-use Rattle.device.specs.Take.{takes}
+use Rattle.device.specs.Take.{takesSimple, takes}
 use Rattle.device.specs.declared.Device.{Device}
 use Rattle.device.specs.declared.Handed.{Handed}
 use Rattle.device.specs.declared.Handed.the-variants as handed
@@ -151,18 +151,18 @@ answered f handed.Clear = refl
 answered f handed.Trigger = refl
 
 sent-on : ruled 0 0x580 one .frame ≡ 0x581
-unfolding messages kindAt lookup within firstIn firstOf hasC1 offsetIn c1In choose powerOn bytesFrom aad takes
+unfolding messages kindAt lookup within firstIn firstOf hasC1 offsetIn c1In choose powerOn bytesFrom aad takesSimple takes
     deviceOf recordOf parts join linkOf framesOf loopOf areaOf
 sent-on = refl
 
 left-on : (link (loopOf one) 1 ≡ []) × (link (loopOf (hopLeaves 0 0x580 one)) 1 ≡ 0x581 ∷ [])
-unfolding messages kindAt lookup within firstIn firstOf hasC1 offsetIn c1In choose powerOn bytesFrom aad takes
+unfolding messages kindAt lookup within firstIn firstOf hasC1 offsetIn c1In choose powerOn bytesFrom aad takesSimple takes
     deviceOf recordOf parts join linkOf framesOf loopOf areaOf splice
 left-on = (refl, refl)
 
 -- and the second device waits
 waits : device (loopOf (hopLeaves 0 0x580 two)) 1 .configured ≡ 0
-unfolding messages kindAt lookup within firstIn firstOf hasC1 offsetIn c1In choose powerOn bytesFrom aad takes
+unfolding messages kindAt lookup within firstIn firstOf hasC1 offsetIn c1In choose powerOn bytesFrom aad takesSimple takes
     deviceOf recordOf parts join linkOf framesOf loopOf areaOf splice
 waits = refl
 
@@ -171,7 +171,7 @@ unfolding areaOf
 both-there = omega arith
 
 works : takes (device (loopOf two) 1) (ruled 0 0x580 two .frame) .device .configured ≡ 1
-unfolding messages kindAt lookup within firstIn firstOf hasC1 offsetIn c1In choose powerOn bytesFrom aad takes
+unfolding messages kindAt lookup within firstIn firstOf hasC1 offsetIn c1In choose powerOn bytesFrom aad takesSimple takes
     deviceOf recordOf parts join linkOf framesOf loopOf areaOf splice
 works = refl
 

@@ -1,4 +1,4 @@
-// The bytes of a record that are zero: the spare ones, and ID and data past their length.
+// The bytes of a record that are zero: ID and data past their length.
 use record::ID;
 use record::ID_LENGTH;
 use record::LOAD;
@@ -6,7 +6,7 @@ use record::LOAD_LENGTH;
 use record::SIZE;
 ghost use mathlib.Core.Path.{_≡_};
 ghost use lib.ListN.{length, drop};
-ghost use Rattle.record.specs.Record.{recordSize, deviceOf, spare, zeros};
+ghost use Rattle.record.specs.Record.{recordSize, deviceOf, zeros};
 ghost use Rattle.record.specs.Sound.{zeroPast};
 
 // All bytes from a place on are zero. No turn ends the loop early, so that many bytes are tested at a time.
@@ -30,14 +30,6 @@ pub fn zero_past_length(s: &[u8], length: u8) -> bool
         return zeros_from(s, 0);
     }
     zeros_from(s, length as usize)
-}
-
-// Bytes 20 and 21.
-pub fn spare_zero(rec: &[u8]) -> bool
-    requires { ⌜ length (now rec) ≡ recordSize ⌝ }
-    ensures { λ r. ⌜ r ≡ zeros (spare (now (rec .entry))) ⌝ }
-{
-    (rec[20] == 0) & (rec[21] == 0)
 }
 
 fn id_zero_past(rec: &[u8]) -> bool

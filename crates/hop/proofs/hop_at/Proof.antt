@@ -60,7 +60,7 @@ returns-3 c =
     rw (hop-done (s .args .i) (loopOf (s .args .area .now)) _ _ (s .pre .there)
     (sym (o .oldest-at .ensures) ∙ f .frame .given .1)
     (sym (rw add-one at (q .room-at .ensures)) ∙ b .behind .given .1)) (
-      c .hop-answer .ensures ∙ ap (λ (t : Sent). hopAnswer (t .frame) (t .handed)) (p .pass-on .ensures .0),
+      c .hop-answer .ensures ∙ rw (p .pass-on .ensures .0 .frame, p .pass-on .ensures .0 .handed),
       p .pass-on .ensures .1 .written,
     )
 

@@ -6,7 +6,6 @@ use native.Mathlib.Omega.{arith}
 use native.Mathlib.Numerals.{add-one}
 use lib.ListN.{length-set}
 use Rattle.frame.specs.Messages.{frames}
-use Rattle.device.specs.Sent.{Sent}
 use Rattle.area.specs.Loop.{loopOf, link, Holds}
 use Rattle.area.specs.Lookup.{roomOf, setDevice, remove}
 use Rattle.area.proofs.Links.{some-frame}
@@ -22,7 +21,7 @@ use Rattle.hop.proofs.pass_on.Tie as tie
 frame-is : (c : tie.After-take-at) →
     let s = c .before .before .before in
     c .take-at .result .frame ≡ sentBy (s .args .i) (s .args .frame) (loopOf (s .args .area .now)) .frame
-frame-is c = ap (λ (t : Sent). t .frame) (c .take-at .ensures .0)
+frame-is c = c .take-at .ensures .0 .frame
 
 is-frame : (c : tie.After-take-at) → c .take-at .result .frame < frames
 is-frame c =

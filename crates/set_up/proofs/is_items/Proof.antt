@@ -13,4 +13,5 @@ is-items-spec =
     (tie.spec
     (λ c. search needs)
     (λ c. search needs)
+    (λ c. search needs)
     (λ c. refl))

@@ -1,4 +1,4 @@
--- At most 13 bytes copied over 13 zeros are those bytes, and zeros behind them.
+-- At most 14 bytes copied over 14 zeros are those bytes, and zeros behind them.
 use mathlib.Core.Path.{_∙_}
 use Rattle.device.proofs.Bytes.{padded-is}
 use Rattle.area.specs.Sizes.{longItemSize}

@@ -1,4 +1,4 @@
--- Item by item: the test of all is that of the items that are left, each as one of 13 bytes.
+-- Item by item: the test of all is that of the items that are left, each as one of 14 bytes.
 use Prim.Native.Nat.{ℕ, _≤_}
 use mathlib.Core.Path.{_≡_, refl, sym, ap, _∙_}
 use native.Mathlib.Omega.{arith}
@@ -33,7 +33,7 @@ long c =
 item-of-requires : tie.Need-item-of-requires Inv-loop μ-loop
 item-of-requires c κs = rw (long (c .before), c .before .before .before .item-width .ensures) (width-few _ _)
 
--- and is judged as one of 13 bytes
+-- and is judged as one of 14 bytes
 judged : (c : tie.After-item-allowed Inv-loop μ-loop) →
     let o = c .before .before in
     let i = o .before .before in

@@ -39,8 +39,8 @@ loop-holds c =
 
 -- item i, of w bytes, lies within the items
 record Item (w i : ℕ) (items : List ℕ) : Type 0 where
-  few : w ≤ 13
-  times : w * i ≤ 13 * i
+  few : w ≤ 14
+  times : w * i ≤ 14 * i
   within : w * i + w ≤ length items
 
 item : (c : tie.In-loop Inv-loop μ-loop) →

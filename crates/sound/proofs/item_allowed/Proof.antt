@@ -11,11 +11,12 @@ use Rattle.sound.proofs.item_allowed.Tie as tie
 returns : tie.Need-returns
 unfolding allowed powerOn
 returns c =
-    let a = c .before in
+    let a = c .before .before in
     let z = a .before .before in
     let s = z .before .before .before .before .before .before in
     let item = s .args .item .now in
     rw (
+      c .variant-allowed .ensures,
       a .abilities-allowed .ensures (powerOn item) refl,
       z .zero-past-length .ensures,
       take-bytes 8 4 item (search needs),
@@ -37,4 +38,6 @@ item-allowed-spec =
     (λ c. search needs)
     (λ c κs. search needs)
     (λ c. search needs)
+    (λ c. search needs)
+    (λ c κs. search needs)
     returns)

@@ -14,7 +14,6 @@ record-sound-spec =
     (λ c κs. search needs)
     (λ c κs. search needs)
     (λ c κs. search needs)
-    (λ c κs. search needs)
     (λ c. rw grouped (search (both, chain)))
     (λ c. rw grouped (search (both, chain)))
     (λ c. rw grouped (search (both, chain)))

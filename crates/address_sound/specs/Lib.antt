@@ -1,0 +1,2 @@
+-- The clauses of soundness on addresses, as the code tests them.
+pub mod Addresses
