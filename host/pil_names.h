@@ -73,6 +73,13 @@ static const char *const pil_stop_texts[4] = {
     "clear or trigger",
 };
 
+/* Assignment states, PIL_UNCONFIGURED to PIL_HALF_ASSIGNED. */
+static const char *const pil_assignment_texts[3] = {
+    "unconfigured",
+    "configured",
+    "half assigned",
+};
+
 /* Talker states, PIL_TALKER_IDLE to PIL_TALKER_ACCESSORY. */
 static const char *const pil_talker_texts[6] = {
     "idle",

@@ -11,7 +11,8 @@ use record::read::has_further;
 ghost use mathlib.Core.Path.{_≡_};
 ghost use lib.ListN.{length};
 ghost use Rattle.record.specs.Record.{recordSize, deviceOf};
-ghost use Rattle.record.specs.Sound.{unconfiguredFixed, configuredAble, simpleRight, unconfiguredSecond, configuredBoth};
+ghost use Rattle.record.specs.Sound.{unconfiguredFixed, configuredAble, simpleRight, unconfiguredSecond};
+ghost use Rattle.record.specs.Sound.{configuredBoth};
 ghost use Rattle.record.specs.Sound.{extendedRight};
 ghost use Rattle.address_sound.specs.Addresses.{addressRight};
 

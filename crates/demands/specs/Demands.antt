@@ -3,9 +3,10 @@
 -- (i), over the very definitions that the contracts of the exported functions cite.
 -- It leans on Calls, Conditions, Drains, Histories (the crate teeth says what it shuts out); frame's Messages,
 -- Classes, Decoding, Coding, Laws, Bits; coding's Coding; poll_count's Count; device's Sent, Sentences, RemoteTable,
--- PollSentences, PollTable, ExtendedSentences, ExtendedTable, and Take with the rules that it names; record_local's Local; record's Record, Parts, Sound,
--- Fits, Laws; area's Sizes, Parts, Link, Loop, Lookup; calls' Outcome, Calls, Drain, SetUp, Owed; saved's Saved, Older,
--- Calls, Laws; limits' Limits; order's Line, Flat, History, RightRound, Through, Owed, which have names of their own.
+-- PollSentences, PollTable, ExtendedSentences, ExtendedTable, and Take with the rules that it names; record_local's
+-- Local; record's Record, Parts, Sound, Fits, Laws; area's Sizes, Parts, Link, Loop, Lookup; calls' Outcome, Calls,
+-- Drain, SetUp, Owed; saved's Saved, Older, Calls, Laws; limits' Limits; order's Line, Flat, History, RightRound,
+-- Through, Owed, which have names of their own.
 use Prim.Native.Nat.{ℕ, suc, _+_, _*_, _≤_, _<_}
 use mathlib.Core.Path.{_≡_}
 use mathlib.Core.List.{List, [], _∷_, _++_, map, tail}
@@ -429,8 +430,8 @@ pub record ParallelPoll : Type 0 where
   pub any-poll : AnyPoll
   pub no-poll : NoPoll
 
--- ---- Extended addresses (02, i). Demand 2 reads over both variants of a device, each by its rules (`takes`); demand 3 is
--- proved once for both, and that every frame keeps a sound device sound is in `StaysJudged`.
+-- ---- Extended addresses (02, i). Demand 2 reads over both variants of a device, each by its rules (`takes`); demand 3
+-- is proved once for both, and that every frame keeps a sound device sound is in `StaysJudged`.
 
 pub record ExtendedAddresses : Type 0 where
   -- Sensors assigned, addressed and unaddressed, alone and beside a simple device, line by line.
@@ -440,7 +441,8 @@ pub record ExtendedAddresses : Type 0 where
   -- An extended one remembers its own LAD or TAD, the later of them, over ready frames and its own SAD, and over no
   -- other command.
   pub remembers : Remembers
-  -- Only with that does its own SAD make it a listener or a talker, and another's SAD have the talker idle.
+  -- Only with that, and the ability, does its own SAD make it a listener or a talker, and another's SAD have the talker
+  -- idle; no SAD and no primary changes a role otherwise.
   pub by-second : BySecond
   -- AES, AEP and AAU assign and take back both addresses as 001's section 2.15 says, and no other frame does.
   pub assigned : Assigned

@@ -10,7 +10,7 @@ use Rattle.frame.specs.Messages.{kindAt}
 use Rattle.frame.specs.Decoding.{decoded}
 use Rattle.device.specs.Choose.{choose}
 use Rattle.device.specs.Device.{extended, hasFurther}
-use Rattle.device.specs.Extended.{isCommand, primaryIdle, heeding, primaryLost}
+use Rattle.device.specs.Extended.{commandKind, primaryIdle, heeding, primaryLost}
 use Rattle.device.specs.Take.{Rule, select, extendedRules, takesSimple, takesExtended, takes}
 use Rattle.device.specs.declared.Device.{Device}
 use Rattle.device.specs.Sent.{Sent}
@@ -87,12 +87,12 @@ module _ (d : Device) (f k : ℕ) (e : kindAt f ≡ k) (n : listed k (extendedRu
       ∙ unselected k (extendedRules d f (decoded f)) (takesSimple (heeding d k) f) n
 
   -- no command
-  pub as-simple : isCommand k ≡ false → takes d f ≡ takesSimple d f
+  pub as-simple : commandKind k ≡ false → takes d f ≡ takesSimple d f
   unfolding heeding choose
   as-simple c = by-variant (λ s. s ≡ takesSimple d f) d f (λ x. heeded ∙ rw c) (λ x. refl)
 
   -- a command that is no extended device's own
-  pub as-lost : isCommand k ≡ true → takes d f ≡ takesSimple (primaryLost d) f
+  pub as-lost : commandKind k ≡ true → takes d f ≡ takesSimple (primaryLost d) f
   unfolding heeding primaryLost choose
   as-lost c =
       by-variant (λ s. s ≡ takesSimple (primaryLost d) f) d f (λ x. heeded ∙ rw (c, x)) (λ x. rw x)

@@ -16,11 +16,13 @@ use Rattle.device.specs.Device.{fixedSecond, presentSecond, listenPrimar
 use Rattle.device.specs.Change.{talking, placed, flagging, seconding}
 use Rattle.device.specs.Remote.{toRemote}
 use Rattle.device.specs.Reply.{sends}
-use Rattle.device.specs.Extended.{isCommand, primaryIdle, heeding, extendedLad, extendedTad, sadListens, sadTalks}
+use Rattle.device.specs.Extended.{commandKind, primaryIdle, heeding, extendedLad, extendedTad, sadListens}
+use Rattle.device.specs.Extended.{sadTalks}
 use Rattle.device.specs.Extended.{sad, extendedAau, aes, aep}
 use Rattle.device.specs.Take.{extendedRules, takesSimple, takesExtended, takes}
 use Rattle.device.specs.Sentences.{Of}
-use Rattle.device.specs.ExtendedSentences.{Simple, Extended, SimpleAlone, OwnLad, OwnTad, OwnSad, Flags, Remembers}
+use Rattle.device.specs.ExtendedSentences.{Simple, Extended, SimpleAlone, OwnLad, OwnTad, OwnSad, Flags}
+use Rattle.device.specs.ExtendedSentences.{Remembers}
 use Rattle.device.specs.ExtendedSentences.{SameRoles, BySecond, SamePlace, Assigned, PlaceKept}
 use Rattle.device.specs.declared.Device.{Device}
 use Rattle.device.specs.Sent.{Sent}
@@ -153,7 +155,8 @@ talks-seconds d =
 sad-seconds : (d : Device) → seconds (sadTalks (sadListens d)) ≡ seconds d
 sad-seconds d = talks-seconds (sadListens d) ∙ listens-seconds d
 
-lad-flags : (d : Device) (a : ℕ) → a ≡ d .address → has d listen ≡ true → extendedLad d a ≡ flagging (toRemote d) received 0
+lad-flags : (d : Device) (a : ℕ) → a ≡ d .address → has d listen ≡ true →
+    extendedLad d a ≡ flagging (toRemote d) received 0
 unfolding extendedLad choose
 lad-flags d a e h = rw (eq-eqb a (d .address) e, h)
 
@@ -171,8 +174,8 @@ unfolding sad choose
 sad-other d a n = rw (ne-eqb a (presentSecond d) n)
 
 -- where a kind is none of the commands
-no : {P : Type 0} (k : ℕ) {n : ℕ} (b : Bool) → isCommand n ≡ b → n ≡ k → (isCommand k ≡ b → ⊥) → P
-no k b c e x = absurd (x (ap isCommand (sym e) ∙ c))
+no : {P : Type 0} (k : ℕ) {n : ℕ} (b : Bool) → commandKind n ≡ b → n ≡ k → (commandKind k ≡ b → ⊥) → P
+no k b c e x = absurd (x (ap commandKind (sym e) ∙ c))
 
 differ : true ≡ false → ⊥
 differ e = let z : _≡_ {A = ℕ} 0 1 = cc in omega arith
@@ -208,11 +211,11 @@ module _ (d : Device) (f : ℕ) (x : Extended d) where
         talk = lt-leb received (((presentSecond d + 0) / received) * received + fixedSecond d) (omega arith);
       }
 
-  heeded-forgets : isCommand (kindAt f) ≡ true → Flags (takesSimple (heeding d (kindAt f)) f .device) false false
+  heeded-forgets : commandKind (kindAt f) ≡ true → Flags (takesSimple (heeding d (kindAt f)) f .device) false false
   unfolding heeding choose
   heeded-forgets c = rw c (no-flags d _ (simple-seconds (primaryIdle d) f))
 
-  forgets : isCommand (kindAt f) ≡ true → (OwnLad d f ⊎ (OwnTad d f ⊎ OwnSad d f) → ⊥) →
+  forgets : commandKind (kindAt f) ≡ true → (OwnLad d f ⊎ (OwnTad d f ⊎ OwnSad d f) → ⊥) →
       Flags (takes d f .device) false false
   unfolding takesExtended
   forgets c n =
@@ -245,12 +248,12 @@ module _ (d : Device) (f : ℕ) (x : Extended d) where
       (λ l. same-flags d _ refl) (λ l. same-flags d _ refl))
       (λ c. same-flags d _ refl)
 
-  heeded-keeps : isCommand (kindAt f) ≡ false →
+  heeded-keeps : commandKind (kindAt f) ≡ false →
       Flags (takesSimple (heeding d (kindAt f)) f .device) (listenPrimary d) (talkPrimary d)
   unfolding heeding choose
   heeded-keeps c = rw c (same-flags d _ (simple-seconds d f))
 
-  keeps : isCommand (kindAt f) ≡ false → Flags (takes d f .device) (listenPrimary d) (talkPrimary d)
+  keeps : commandKind (kindAt f) ≡ false → Flags (takes d f .device) (listenPrimary d) (talkPrimary d)
   unfolding takesExtended
   keeps c =
       rw (own d f x)
@@ -271,6 +274,8 @@ remembers =
       own-lad = λ d f x o.
           rw (lad-own d f x (o .0), lad-flags d (decoded f .offset) (o .1 .0) (o .1 .1))
           (record { listen = flag-set (toRemote d .fixedsecond); talk = flag-clear (toRemote d .second) });
+      own-lad-remote = λ d f x o.
+          rw (lad-own d f x (o .0), lad-flags d (decoded f .offset) (o .1 .0) (o .1 .1));
       own-tad = λ d f x o.
           rw (tad-own d f x (o .0), tad-flags d (decoded f .offset) (o .1 .0) (o .1 .1))
           (record { listen = flag-clear (d .fixedsecond); talk = flag-set (d .second) });
@@ -313,6 +318,14 @@ module _ (d : Device) where
   unfolding sad choose
   falls-idle a t n = rw (ne-eqb a (presentSecond d) n, t)
 
+deaf : (d : Device) → has d listen ≡ false → sadListens d ≡ d
+unfolding sadListens choose
+deaf d h = rw h (chosen (λ (e : Device). e ≡ d) (listenPrimary d) d d (λ l. refl) (λ l. refl))
+
+mute : (d : Device) → talks d ≡ false → sadTalks d ≡ d
+unfolding sadTalks choose
+mute d h = rw h (chosen (λ (e : Device). e ≡ d) (talkPrimary d) d d (λ l. refl) (λ l. refl))
+
 heard : (d : Device) → Flags d true false → has d listen ≡ true → sadTalks (sadListens d) .listener ≡ 1
 unfolding sadListens choose
 heard d f h =
@@ -326,13 +339,18 @@ talked d f h =
     ap (λ (e : Device). sadTalks e .talker) (unheard d (f .listen))
     ∙ rw (f .talk, h) (chosen (λ (e : Device). e .talker ≡ addressed) (has d unaddress) _ _ (λ u. refl) (λ u. refl))
 
+unable-roles : (d : Device) → has d listen ≡ false → talks d ≡ false → SameRoles d (sadTalks (sadListens d))
+unable-roles d l t = rw (deaf d l, mute d t) (record { listener = refl; talker = refl })
+
 pub by-second : BySecond
 by-second =
     record {
-      listens = λ d f x g h o. rw (sad-own d f x (o .0), sad-same d (decoded f .offset) (o .1)) (heard d g h);
-      talks = λ d f x g h o. rw (sad-own d f x (o .0), sad-same d (decoded f .offset) (o .1)) (talked d g h);
+      to-listener = λ d f x g h o. rw (sad-own d f x (o .0), sad-same d (decoded f .offset) (o .1)) (heard d g h);
+      to-talker = λ d f x g h o. rw (sad-own d f x (o .0), sad-same d (decoded f .offset) (o .1)) (talked d g h);
       no-primary = λ d f x h e. rw (sad-own d f x e) (no-roles d (decoded f .offset) h);
       other-second = λ d f x t e n. rw (sad-own d f x e) (falls-idle d (decoded f .offset) t n);
+      other-untalked = λ d f x t e n. rw (sad-own d f x e, sad-other d (decoded f .offset) n) (other-roles d t);
+      unable = λ d f x l t e o. rw (sad-own d f x e, sad-same d (decoded f .offset) o) (unable-roles d l t);
       primary-alone = λ d f x. ⊎-elim
           (λ (o : OwnLad d f). rw (lad-own d f x (o .0), lad-flags d (decoded f .offset) (o .1 .0) (o .1 .1))
           (remote-roles d))
@@ -372,10 +390,12 @@ assigned =
     record {
       aes = λ d f x c e.
           let a = aes-address f e in
-          rw (aes-own d f x e, aes-taken d f (decoded f .offset) c) (omega arith, refl, refl);
+          rw (aes-own d f x e, aes-taken d f (decoded f .offset) c)
+          (omega arith, refl, refl, refl, record { listener = refl; talker = refl });
       aes-once = λ d f x n e. aes-own d f x e ∙ aes-passed d f (decoded f .offset) n;
       aep = λ d f x c n e.
-          rw (aep-own d f x e, aep-taken d (decoded f .offset) c n) (refl, refl, refl);
+          rw (aep-own d f x e, aep-taken d (decoded f .offset) c n)
+          (refl, refl, refl, refl, record { listener = refl; talker = refl });
       aep-half = λ d f x n e.
           aep-own d f x e ∙ ap (λ (c : Device). sends c f) (aep-passed d (decoded f .offset) n);
       aep-legal = λ d f x n e.
@@ -414,7 +434,7 @@ module _ (d : Device) (f : ℕ) (x : Extended d) where
   heeded-place : (Of Aau f ⊎ Of Aad f → ⊥) → InPlace (takesSimple (heeding d (kindAt f)) f)
   unfolding heeding
   heeded-place n =
-      chosen (λ (c : Device). InPlace (takesSimple c f)) (isCommand (kindAt f)) (primaryIdle d) d
+      chosen (λ (c : Device). InPlace (takesSimple c f)) (commandKind (kindAt f)) (primaryIdle d) d
       (λ c. simply (primaryIdle d) ∙ place-flags .neither d) (λ c. simply d)
     where
       simply : (e : Device) → place (takesSimple e f .device) ≡ place e

@@ -28,7 +28,7 @@ use Rattle.device.specs.Reply.{eto, ete, sends, marked, stops, dataFrame
 use Rattle.device.specs.Reply.{sendsData, sendsOther, continues}
 use Rattle.device.specs.Ready.{requested, polls, sst, nrd, aad}
 use Rattle.device.specs.Data.{returned, heard, dataOrEnd}
-use Rattle.device.specs.Extended.{isCommand, primaryIdle, heeding, extendedLad, extendedTad, sadListens}
+use Rattle.device.specs.Extended.{commandKind, primaryIdle, heeding, extendedLad, extendedTad, sadListens}
 use Rattle.device.specs.Extended.{sadTalks, sad, aes, aep}
 use Rattle.device.specs.Take.{rules, extendedRules, takesSimple, takesExtended, takes}
 use Rattle.device.specs.Sentences.{Of, ShowsC1, Sending, ShowsService, OfBytes, Zeroed, ClearDue, TriggerDue}
@@ -453,7 +453,7 @@ module _ (d : Device) (f : ℕ) (q : ShowsService f → ⊥) where
   heeded-told : (k : ℕ) → Told d f (takesSimple (heeding d k) f)
   unfolding heeding
   heeded-told k =
-      chosen (λ (x : Device). Told d f (takesSimple x f)) (isCommand k) (primaryIdle d) d
+      chosen (λ (x : Device). Told d f (takesSimple x f)) (commandKind k) (primaryIdle d) d
       (λ c. flags-told d f (simple-told (primaryIdle d) f q)) (λ c. simple-told d f q)
 
   extended-told : Told d f (takesExtended d f)

@@ -22,7 +22,7 @@ use Rattle.device.specs.Clear.{toListener}
 use Rattle.device.specs.Reply.{sends, stops, otherLength, sendsData, sendsOther, continues}
 use Rattle.device.specs.Ready.{requested, polls, sst, nrd, aad}
 use Rattle.device.specs.Data.{returned, heard, dataOrEnd}
-use Rattle.device.specs.Extended.{isCommand, primaryIdle, heeding, extendedLad, extendedTad, sadListens}
+use Rattle.device.specs.Extended.{commandKind, primaryIdle, heeding, extendedLad, extendedTad, sadListens}
 use Rattle.device.specs.Extended.{sadTalks, sad, aes, aep}
 use Rattle.device.specs.Take.{rules, extendedRules, takesSimple, takesExtended, takes}
 use Rattle.device.specs.Sentences.{Of, MovesRemote}
@@ -308,7 +308,7 @@ module _ {A : Type 0} (v : Device → A) (p : Plain v) (s : Apart v) (d : Device
     heeded-leaves : (k : ℕ) → Leaves v p d (takesSimple (heeding d k) f)
     unfolding heeding
     heeded-leaves k =
-        chosen (λ (x : Device). Leaves v p d (takesSimple x f)) (isCommand k) (primaryIdle d) d
+        chosen (λ (x : Device). Leaves v p d (takesSimple x f)) (commandKind k) (primaryIdle d) d
         (λ c. untouched-simple v p (primaryIdle d) f r b (λ a. s .placed) ∙ lost-same v p (s .flags) d)
         (λ c. untouched-simple v p d f r b (λ a. s .placed))
 

@@ -15,8 +15,8 @@ use Rattle.device.specs.declared.Device.{Device}
 use Rattle.device.specs.Sent.{Sent}
 
 -- a command is a frame of kind 3 to 24
-abbrev pub isCommand : ℕ → Bool
-isCommand k = leb (numberOf Nul) k && leb k (numberOf Ddt)
+abbrev pub commandKind : ℕ → Bool
+commandKind k = leb (numberOf Nul) k && leb k (numberOf Ddt)
 
 -- in LPIS and TPIS: neither primary was received
 abbrev pub primaryIdle : Device → Device
@@ -28,7 +28,7 @@ primaryLost d = choose (hasFurther d extended) (primaryIdle d) d
 
 -- where a frame of kind k begins, but for those with a rule below: in LPIS and TPIS if it is a command
 unfoldable pub heeding : Device → ℕ → Device
-heeding d k = choose (isCommand k) (primaryIdle d) d
+heeding d k = choose (commandKind k) (primaryIdle d) d
 
 -- LAD a, equal to the address now, with ability 1: the listen primary alone is received, and to remote while enabled
 unfoldable pub extendedLad : Device → ℕ → Device

@@ -5,9 +5,9 @@ use mathlib.Core.Path.{_≡_}
 use mathlib.Core.List.{List, [], _∷_, _++_, map}
 use lib.ListN.{replicate}
 use Rattle.device.specs.Device.{listen, sendData, autoAddress, unaddress, extended, halfAssigned, noAddress}
-use Rattle.device.specs.Device.{presentSecond}
+use Rattle.device.specs.Device.{received, presentSecond}
 use Rattle.device.specs.PowerOn.{powerOn}
-use Rattle.device.specs.Change.{placed, seconding}
+use Rattle.device.specs.Change.{placed, flagging, seconding}
 use Rattle.device.specs.PollSentences.{pastAll}
 use Rattle.device.specs.PollTable.{goes, afterAll}
 use Rattle.device.specs.declared.Device.{Device}
@@ -112,6 +112,9 @@ table =
     commands two (0x425 ∷ 0x460 ∷ 0x445 ∷ 0x460 ∷ []) (stands 5 0 1 1 1 ∷ stands 5 1 1 0 0 ∷ []) ∷
     commands one (0x425 ∷ 0x460 ∷ 0x445 ∷ 0x460 ∷ []) (stands 5 0 1 0 1 ∷ []) ∷
     commands one (0x445 ∷ 0x460 ∷ 0x425 ∷ 0x460 ∷ []) (stands 5 0 1 1 0 ∷ []) ∷
+    -- both primaries received, as a lent record may have it: first the one, then the other
+    commands (flagging (at sensor 5 0 1) received received ∷ []) (0x460 ∷ []) (stands 5 0 1 1 1 ∷ []) ∷
+    commands (flagging (at unaddressing 5 0 1) received received ∷ []) (0x460 ∷ []) (stands 5 0 1 0 1 ∷ []) ∷
     -- AAU unconfigured, configured and half assigned
     commands (fixed37 ∷ at fixed37 5 0 1 ∷ at fixed37 5 0 halfAssigned ∷ []) (0x49a ∷ [])
     (stands 3 7 0 0 0 ∷ stands 3 7 0 0 0 ∷ stands 3 7 0 0 0 ∷ []) ∷

@@ -30,7 +30,7 @@ pub record Assigning : Type 0 where
       takes d f .device ≡ assigning (primaryLost d) unassigned
   pub ppu : (d : Device) (f : ℕ) → Of Ppu f → takes d f .device ≡ assigning (primaryLost d) unassigned
 
--- elsewhere PPE and PPD do nothing of the kind;
+-- elsewhere PPE and PPD leave sense and bit;
 pub record OnlyListeners : Type 0 where
   pub ppe : (d : Device) (f : ℕ) → (d .listener ≡ 1 → ⊥) → Of Ppe f → takes d f .device ≡ primaryLost d
   pub ppe-able : (d : Device) (f : ℕ) → hasFurther d parallelPoll ≡ false → Of Ppe f → takes d f .device ≡ primaryLost d

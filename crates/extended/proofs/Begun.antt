@@ -1,5 +1,5 @@
--- A frame that is none of an extended device's own finds either variant where `heed` left it, and is taken by the simple
--- rules from there.
+-- A frame that is none of an extended device's own finds either variant where `heed` left it, and is taken by the
+-- simple rules from there.
 use Prim.Native.Nat.{ℕ}
 use mathlib.Core.Path.{_≡_, refl, sym, ap, _∙_}
 use mathlib.Core.List.{List}
@@ -9,7 +9,7 @@ use Rattle.frame.specs.Messages.{kindAt}
 use Rattle.frame.specs.Decoding.{decoded}
 use Rattle.device.specs.Choose.{choose}
 use Rattle.device.specs.Device.{extended, hasFurther}
-use Rattle.device.specs.Extended.{isCommand, primaryIdle, heeding}
+use Rattle.device.specs.Extended.{commandKind, primaryIdle, heeding}
 use Rattle.device.specs.Sent.{Sent}
 use Rattle.device.specs.Take.{extendedRules, takesSimple, takes}
 use Rattle.device.specs.declared.Device.{Device}
@@ -30,9 +30,9 @@ beginning : (k : ℕ) → Seconds (begins k)
 unfolding heeding choose
 beginning k =
     record {
-      beside = λ d s. with-go d s (hasFurther d extended) (isCommand k);
-      id = λ d. id-go d (hasFurther d extended) (isCommand k);
-      load = λ d. load-go d (hasFurther d extended) (isCommand k);
+      beside = λ d s. with-go d s (hasFurther d extended) (commandKind k);
+      id = λ d. id-go d (hasFurther d extended) (commandKind k);
+      load = λ d. load-go d (hasFurther d extended) (commandKind k);
     }
   where
     with-go : (d : Device) (s : State) (t u : Bool) → with (choose t (choose u (primaryIdle d) d) d) s ≡

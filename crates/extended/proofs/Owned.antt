@@ -14,7 +14,7 @@ use Rattle.frame.specs.Decoding.{decoded}
 use Rattle.frame.proofs.Kind.{the-type}
 use Rattle.device.specs.Choose.{choose}
 use Rattle.device.specs.Device.{extended, hasFurther}
-use Rattle.device.specs.Extended.{isCommand, primaryIdle, heeding}
+use Rattle.device.specs.Extended.{commandKind, primaryIdle, heeding}
 use Rattle.device.specs.Reply.{sends}
 use Rattle.device.specs.Sent.{Sent}
 use Rattle.device.specs.Take.{Rule, extendedRules}
@@ -37,12 +37,13 @@ as-well h e = record { is = h .is ∙ e; bytes = h .bytes }
 
 -- where a frame that is not its own finds a device
 module _ (d : Device) (k : ℕ) where
-  pub heeds : hasFurther d extended ≡ true → isCommand k ≡ true →
+  pub heeds : hasFurther d extended ≡ true → commandKind k ≡ true →
       primaryIdle d ≡ choose (hasFurther d extended) (heeding d k) d
   unfolding heeding choose
   heeds e c = rw (e, c)
 
-  pub heeds-none : hasFurther d extended ≡ true → isCommand k ≡ false → d ≡ choose (hasFurther d extended) (heeding d k) d
+  pub heeds-none : hasFurther d extended ≡ true → commandKind k ≡ false →
+      d ≡ choose (hasFurther d extended) (heeding d k) d
   unfolding heeding choose
   heeds-none e c = rw (e, c)
 

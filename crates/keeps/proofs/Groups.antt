@@ -13,7 +13,8 @@ use Rattle.device.specs.Device.{autoAddress, parallelPoll, extended, has, hasFu
 use Rattle.device.specs.declared.Device.{Device}
 use Rattle.record.specs.Record.{zeros}
 use Rattle.record.specs.Sound.{only, inRange, zeroPast, serviceWithStatus, unaddressWithBoth, unconfiguredFixed}
-use Rattle.record.specs.Sound.{configuredAble, simpleRight, unconfiguredSecond, configuredBoth, extendedRight, variantRight}
+use Rattle.record.specs.Sound.{configuredAble, simpleRight, unconfiguredSecond, configuredBoth, extendedRight}
+use Rattle.record.specs.Sound.{variantRight}
 use Rattle.record.specs.Sound.{listenerAble, serviceAble, sendingAble, addressedAble, dataAble}
 use Rattle.record.specs.Sound.{sentWithin, repliedRight, quietOutside, lastBelow, isAssignment, pollRight, soundDevice}
 use Rattle.record.specs.Fits.{Bytes, Fits, Good}
@@ -234,7 +235,8 @@ joined (b ∷ c ∷ bs) e = both-true (e .0) (joined (c ∷ bs) (e .1))
 abbrev clauses : Device → List Bool
 clauses d =
     inRange d ∷ zeroPast d ∷ serviceWithStatus d ∷ unaddressWithBoth d ∷ unconfiguredFixed d ∷ variantRight d ∷
-    listenerAble d ∷ serviceAble d ∷ sendingAble d ∷ addressedAble d ∷ dataAble d ∷ sentWithin d ∷ repliedRight d ∷ quietOutside d ∷
+    listenerAble d ∷ serviceAble d ∷ sendingAble d ∷ addressedAble d ∷ dataAble d ∷ sentWithin d ∷ repliedRight d ∷
+    quietOutside d ∷
     lastBelow d ∷ pollRight d ∷ []
 
 abbrev ranges : Device → List Bool

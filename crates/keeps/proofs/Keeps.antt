@@ -20,7 +20,7 @@ use Rattle.device.specs.Clear.{reports, toListener}
 use Rattle.device.specs.Reply.{sends, marked, eto, ete}
 use Rattle.device.specs.Ready.{requested, polls, sst, nrd, aad}
 use Rattle.device.specs.Data.{returned, heard, dataOrEnd}
-use Rattle.device.specs.Extended.{isCommand, primaryIdle, heeding, extendedLad, extendedTad, sadListens, sadTalks}
+use Rattle.device.specs.Extended.{commandKind, primaryIdle, heeding, extendedLad, extendedTad, sadListens, sadTalks}
 use Rattle.device.specs.Extended.{sad, extendedAau, aes, aep}
 use Rattle.device.specs.Take.{rules, extendedRules, takesSimple, takesExtended, takes}
 use Rattle.record_local.specs.Local.{loads, setsStatus, wishing, wishes, yesOrNo, setsPollStatus}
@@ -409,7 +409,7 @@ extended-out : (d : Device) (f : ℕ) → Kept d → hasFurther d extended ≡ t
 unfolding takesExtended heeding
 extended-out d f k x =
     selected (Out f) (kindAt f) (extendedRules d f (decoded f)) (takesSimple (heeding d (kindAt f)) f)
-    (λ u. chosen (λ (c : Device). Out f (takesSimple c f)) (isCommand (kindAt f)) (primaryIdle d) d
+    (λ u. chosen (λ (c : Device). Out f (takesSimple c f)) (commandKind (kindAt f)) (primaryIdle d) d
     (λ c. simple-out (primaryIdle d) f (lost-kept d k x)) (λ c. simple-out d f k))
     (λ e. passes _ f (extended-lad-kept d k x _))
     (λ e. passes _ f (extended-tad-kept d k x _))

@@ -60,6 +60,16 @@ pub fn talker(number: u64) {
     }
 }
 
+// Assignment states.
+pub fn assignment(number: u64) {
+    match number {
+        0 => text(b"unconfigured"),
+        1 => text(b"configured"),
+        2 => text(b"half assigned"),
+        _ => text(b"?"),
+    }
+}
+
 // Service states.
 pub fn service(number: u64) {
     match number {

@@ -9,6 +9,7 @@ enum Names {
     Kinds,
     Refusals,
     Stops,
+    Assignments,
     Talkers,
     Services,
     Remotes,
@@ -26,6 +27,8 @@ fn main() {
     names_of(Names::Refusals, b"refusal_texts", 11);
     text(b"\n/* Why a drain stopped, PIL_STOP_NO_HOP to PIL_STOP_EVENT. */\n");
     names_of(Names::Stops, b"stop_texts", 4);
+    text(b"\n/* Assignment states, PIL_UNCONFIGURED to PIL_HALF_ASSIGNED. */\n");
+    names_of(Names::Assignments, b"assignment_texts", 3);
     text(b"\n/* Talker states, PIL_TALKER_IDLE to PIL_TALKER_ACCESSORY. */\n");
     names_of(Names::Talkers, b"talker_texts", 6);
     text(b"\n/* Service states, PIL_SERVICE_NONE to PIL_SERVICE_POLLED. */\n");
@@ -67,6 +70,7 @@ fn name(of: Names, number: u64) {
         Names::Kinds => names::kind(number),
         Names::Refusals => names::refusal(number),
         Names::Stops => names::stop(number),
+        Names::Assignments => names::assignment(number),
         Names::Talkers => names::talker(number),
         Names::Services => names::service(number),
         Names::Remotes => names::remote(number),

@@ -15,7 +15,8 @@ use Rattle.device.specs.PowerOn.{bytesFrom, powerOn}
 use Rattle.device.specs.declared.Device.{Device}
 use Rattle.device.proofs.Bytes.{bytes-wide, bytes-all, take-bytes}
 use Rattle.record.specs.Record.{headOf, deviceOf, recordOf, zeros}
-use Rattle.record.specs.Sound.{only, simpleRight, extendedRight, variantRight, pollRight, soundDevice, soundRecord}
+use Rattle.record.specs.Sound.{only, simpleRight, extendedRight, variantRight, pollRight, soundDevice}
+use Rattle.record.specs.Sound.{soundRecord}
 use Rattle.record.specs.Sound.{allowed}
 use Rattle.record.specs.Fits.{Bytes, Fits, Good}
 use Rattle.record.specs.Laws.{RecordWide, ReadWritten, WriteRead, WriteSound, ReadSound, GoodBytes, PowerOnSound}

@@ -13,7 +13,8 @@ use Rattle.device.specs.Change.{assigning, pollstatusing}
 use Rattle.device.specs.Poll.{unassigned}
 use Rattle.device.specs.declared.Device.{Device}
 use Rattle.record.specs.Record.{recordSize, deviceOf, recordOf}
-use Rattle.record.specs.Sound.{configuredAble, variantRight, isAssignment, pollRight, soundDevice, soundRecord, allowed}
+use Rattle.record.specs.Sound.{configuredAble, variantRight, isAssignment, pollRight, soundDevice, soundRecord}
+use Rattle.record.specs.Sound.{allowed}
 use Rattle.record.specs.Fits.{Bytes, Fits, Good}
 
 -- A record is 64 bytes

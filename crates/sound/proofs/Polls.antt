@@ -24,5 +24,6 @@ module _ (d : Device) where
       go false y true false h = refl
       go false y false l h = refl
 
-  pub able-right : hasFurther d parallelPoll ≡ true → (isAssignment (d .assigned) && leb (d .pollstatus) 1) ≡ pollRight d
+  pub able-right : hasFurther d parallelPoll ≡ true →
+      (isAssignment (d .assigned) && leb (d .pollstatus) 1) ≡ pollRight d
   able-right e = rw e (simp and-true)

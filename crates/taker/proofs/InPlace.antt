@@ -4,10 +4,10 @@ use Prim.Native.Nat.{ℕ}
 use mathlib.Core.Path.{_≡_, sym, ap, _∙_}
 use mathlib.Core.List.{List}
 use Rattle.device.specs.Sent.{Sent}
-use Rattle.device.specs.declared.Handed.{Handed}
+use Rattle.device.specs.declared.Device.{Device}
 use Rattle.record.specs.Record.{deviceOf, recordOf}
 use Rattle.record.specs.Written.{written}
-use Rattle.state.specs.State.{values}
+use Rattle.state.specs.State.{values, with}
 use Rattle.state.specs.declared.Passed.{Passed}
 use Rattle.state.proofs.Laws.{write-back}
 use Rattle.extended.specs.Own.{Does}
@@ -19,7 +19,12 @@ put-in b s p r c d same h =
     rw same
     (record {
       passes =
-          record { frame = ap (λ (x : Sent). x .frame) (d .is); handed = ap (λ (x : Sent). x .handed) (d .is) };
+          record {
+            state =
+                let e = ap (λ (x : Sent). x .device) (d .is) in ap (λ (x : Device). with x (p .state)) (sym e) ∙ e;
+            frame = ap (λ (x : Sent). x .frame) (d .is);
+            handed = ap (λ (x : Sent). x .handed) (d .is);
+          };
       leaves =
           h
           ∙ ap (written (values (p .state))) (sym (d .bytes .whole))

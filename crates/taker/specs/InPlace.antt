@@ -4,10 +4,12 @@ use mathlib.Core.Path.{_≡_}
 use mathlib.Core.List.{List}
 use Rattle.device.specs.Sent.{Sent}
 use Rattle.record.specs.Record.{recordOf}
+use Rattle.state.specs.State.{with}
 use Rattle.state.specs.declared.Passed.{Passed}
 
--- a device that does s passes p on
+-- a device that does s passes p on, with its state after it
 pub record Passes (s : Sent) (p : Passed) : Type 0 where
+  pub state : with (s .device) (p .state) ≡ s .device
   pub frame : p .frame ≡ s .frame
   pub handed : p .handed ≡ s .handed
 

@@ -31,7 +31,8 @@ use Rattle.teeth.specs.Example.{fresh, mixed, Example}
 
 empty : AllEmpty (areaLeft fresh mixed)
 unfolding messages kindAt lookup within firstIn firstOf hasC1 offsetIn c1In choose powerOn bytesFrom toRemote lad tad
-    aau toListener marked requested polls sst nrd aad returned heard dataOrEnd takesSimple takes loads deviceOf recordOf zeros
+    aau toListener marked requested polls sst nrd aad returned heard dataOrEnd takesSimple takes
+    loads deviceOf recordOf zeros
     soundDevice soundRecord allowed parts join all framesOf linkOf soundSlot soundLink loopOf areaOf shapedWith sound
     judgeWith callWith putIn takeIn hopIn localIn loadIn isItems itemWidth itemsFit setUpWith canHop highest
     drainFrom headOf recorded saved stands isOf headed formed contents upgrade opened soundSave saveWith openWith
@@ -42,7 +43,8 @@ empty (suc (suc (suc j))) = refl
 
 pub example : Example
 unfolding messages kindAt lookup within firstIn firstOf hasC1 offsetIn c1In choose powerOn bytesFrom toRemote lad tad
-    aau toListener marked requested polls sst nrd aad returned heard dataOrEnd takesSimple takes loads deviceOf recordOf zeros
+    aau toListener marked requested polls sst nrd aad returned heard dataOrEnd takesSimple takes
+    loads deviceOf recordOf zeros
     soundDevice soundRecord allowed parts join all framesOf linkOf soundSlot soundLink loopOf areaOf shapedWith sound
     judgeWith callWith putIn takeIn hopIn localIn loadIn isItems itemWidth itemsFit setUpWith canHop highest
     drainFrom headOf recorded saved stands isOf headed formed contents savedBefore upgrade opened soundSave saveWith

@@ -151,18 +151,21 @@ answered f handed.Clear = refl
 answered f handed.Trigger = refl
 
 sent-on : ruled 0 0x580 one .frame ≡ 0x581
-unfolding messages kindAt lookup within firstIn firstOf hasC1 offsetIn c1In choose powerOn bytesFrom aad takesSimple takes
+unfolding messages kindAt lookup within firstIn firstOf hasC1 offsetIn c1In choose powerOn bytesFrom
+    aad takesSimple takes
     deviceOf recordOf parts join linkOf framesOf loopOf areaOf
 sent-on = refl
 
 left-on : (link (loopOf one) 1 ≡ []) × (link (loopOf (hopLeaves 0 0x580 one)) 1 ≡ 0x581 ∷ [])
-unfolding messages kindAt lookup within firstIn firstOf hasC1 offsetIn c1In choose powerOn bytesFrom aad takesSimple takes
+unfolding messages kindAt lookup within firstIn firstOf hasC1 offsetIn c1In choose powerOn bytesFrom
+    aad takesSimple takes
     deviceOf recordOf parts join linkOf framesOf loopOf areaOf splice
 left-on = (refl, refl)
 
 -- and the second device waits
 waits : device (loopOf (hopLeaves 0 0x580 two)) 1 .configured ≡ 0
-unfolding messages kindAt lookup within firstIn firstOf hasC1 offsetIn c1In choose powerOn bytesFrom aad takesSimple takes
+unfolding messages kindAt lookup within firstIn firstOf hasC1 offsetIn c1In choose powerOn bytesFrom
+    aad takesSimple takes
     deviceOf recordOf parts join linkOf framesOf loopOf areaOf splice
 waits = refl
 
@@ -171,7 +174,8 @@ unfolding areaOf
 both-there = omega arith
 
 works : takes (device (loopOf two) 1) (ruled 0 0x580 two .frame) .device .configured ≡ 1
-unfolding messages kindAt lookup within firstIn firstOf hasC1 offsetIn c1In choose powerOn bytesFrom aad takesSimple takes
+unfolding messages kindAt lookup within firstIn firstOf hasC1 offsetIn c1In choose powerOn bytesFrom
+    aad takesSimple takes
     deviceOf recordOf parts join linkOf framesOf loopOf areaOf splice
 works = refl
 

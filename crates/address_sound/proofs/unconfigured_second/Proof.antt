@@ -1,4 +1,4 @@
--- `address_sound::unconfigured_second` meets its contract: the clause asks for something only where the device is not configured.
+-- `address_sound::unconfigured_second` meets its contract: the clause asks only where the device is not configured.
 use borrow.Author.Needs.{needs}
 use Rattle.record.specs.Record.{deviceOf}
 use Rattle.address_sound.proofs.Asked.{clause}

@@ -1,7 +1,7 @@
 -- `extended::heed` meets its contract: the flags are cleared where the device is extended and the frame a command.
 use mathlib.Core.Path.{sym, ap, _∙_}
 use borrow.Author.Needs.{needs}
-use Rattle.device.specs.Extended.{isCommand}
+use Rattle.device.specs.Extended.{commandKind}
 use Rattle.record.specs.Record.{deviceOf, recordOf}
 use Rattle.extended.proofs.InPlace.{stays}
 use Rattle.extended.proofs.Owned.{heeds, heeds-none, simple-heeds}
@@ -18,7 +18,7 @@ returns c =
     let b = j .before .before .before .before .args .rec .now in
     f .flag .ensures
     ∙ ap recordOf (heeds (deviceOf b) _ (sym (j .before .has-further .ensures) ∙ j .if1 .taken)
-    (ap isCommand (sym (n .number .ensures ∙ k .kind-of .ensures)) ∙ i .if2 .taken))
+    (ap commandKind (sym (n .number .ensures ∙ k .kind-of .ensures)) ∙ i .if2 .taken))
 
 returns-2 : tie.Need-returns-2
 returns-2 c =
@@ -29,7 +29,7 @@ returns-2 c =
     let b = s .args .rec .now in
     stays b (s .pre)
     ∙ ap recordOf (heeds-none (deviceOf b) _ (sym (j .before .has-further .ensures) ∙ j .if1 .taken)
-    (ap isCommand (sym (n .number .ensures ∙ k .kind-of .ensures)) ∙ c .if2 .left))
+    (ap commandKind (sym (n .number .ensures ∙ k .kind-of .ensures)) ∙ c .if2 .left))
 
 returns-3 : tie.Need-returns-3
 returns-3 c =

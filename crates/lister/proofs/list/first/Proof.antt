@@ -12,7 +12,8 @@ returns c =
     let t = w .before .before in
     let l = t .before .before in
     let s = l .before .before .before .before in
-    rw (first-wrong (s .args .line .now) (s .args .area .now) (s .pre .0) (sym (l .loop-in .ensures) ∙ t .enum-told .given .1))
+    rw (first-wrong (s .args .line .now) (s .args .area .now) (s .pre .0)
+    (sym (l .loop-in .ensures) ∙ t .enum-told .given .1))
     (did (w .bad-line .ensures) (c .last .ensures .0) (c .last .ensures .1) refl)
 
 set-up-requires : tie.Need-set-up-requires

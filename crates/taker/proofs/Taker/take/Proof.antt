@@ -34,7 +34,8 @@ returns-2 c =
     let i = k .before .before in
     let o = k .own .ensures in
     let s = i .before .before .before .before .before .before .before in
-    let x = left (hasFurther (deviceOf (s .args .rec .now)) extended) _ (sym (i .before .owns .ensures) ∙ i .if3 .taken) in
+    let x = left (hasFurther (deviceOf (s .args .rec .now)) extended) _
+    (sym (i .before .owns .ensures) ∙ i .if3 .taken) in
     put-in _ _ (k .own .result) _ _ (record { is = o .is ∙ sym (extended-own _ _ x); bytes = o .bytes })
     (p .put-back2 .ensures .0) (p .put-back2 .ensures .1)
 
