@@ -1,7 +1,7 @@
 -- A clause asks for something where its number is the one that it names, and is met by all others; and one that goes by
 -- the variant is that of the device's own.
 use Prim.Native.Nat.{ℕ}
-use mathlib.Core.Path.{_≡_, refl, sym, _∙_}
+use mathlib.Core.Path.{_≡_, refl}
 use mathlib.Core.Bool.{Bool, true, false, not, cond}
 use lib.Dec.{eqb}
 use borrow.Author.Tests.{eq-eqb, ne-eqb}

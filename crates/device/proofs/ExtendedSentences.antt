@@ -6,9 +6,9 @@ use mathlib.Core.Bool.{Bool, true, false}
 use mathlib.Core.Logic.{_⊎_, inl, inr, ⊎-elim}
 use native.Mathlib.Omega.{arith}
 use lib.Dec.{eqb, ltb, leb}
-use borrow.Author.Tests.{eqb-true, eqb-false, eq-eqb, ne-eqb, le-leb, lt-leb, lt-ltb, le-ltb, leb-true, leb-false}
+use borrow.Author.Tests.{eqb-true, eq-eqb, ne-eqb, le-leb, lt-leb, lt-ltb, le-ltb, leb-true, leb-false}
 use Rattle.frame.specs.declared.Kind.the-variants.{Lad, Tad, Sad, Aau, Aad, Aes, Aep, Iep, Ies}
-use Rattle.frame.specs.Messages.{kindAt, numberOf}
+use Rattle.frame.specs.Messages.{kindAt}
 use Rattle.frame.specs.Decoding.{decoded}
 use Rattle.device.specs.Choose.{choose}
 use Rattle.device.specs.Device.{listen, unaddress, idle, addressed, noAddress, halfAssigned, received, has, talks}
@@ -23,13 +23,14 @@ use Rattle.device.specs.Take.{extendedRules, takesSimple, takesExtended,
 use Rattle.device.specs.Sentences.{Of}
 use Rattle.device.specs.ExtendedSentences.{Simple, Extended, SimpleAlone, OwnLad, OwnTad, OwnSad, Flags}
 use Rattle.device.specs.ExtendedSentences.{Remembers}
-use Rattle.device.specs.ExtendedSentences.{SameRoles, BySecond, SamePlace, Assigned, PlaceKept}
+use Rattle.device.specs.ExtendedSentences.{SameRoles, BySecond, Assigned, PlaceKept}
 use Rattle.device.specs.declared.Device.{Device}
 use Rattle.device.specs.Sent.{Sent}
 use Rattle.device.proofs.Chosen.{chosen, selected}
 use Rattle.device.proofs.Classes.{aes-address}
 use Rattle.device.proofs.Untouched.{Plain, NotFlag, plain-place, untouched-simple}
-use Rattle.device.proofs.Untouched.{extended-lad-same, extended-tad-same, sad-same as left-sad}
+use Rattle.device.proofs.Untouched.{extended-lad-same, extended-tad-same, sad-listens-same, sad-talks-same}
+use Rattle.device.proofs.Untouched.{sad-same as left-sad}
 
 -- ---- a simple device
 
@@ -128,32 +129,20 @@ no-flags d e q =
     flags-of (primaryIdle d) e _ _ q
     (record { listen = flag-clear (d .fixedsecond); talk = flag-clear (d .second) })
 
+seconds-plain : Plain seconds
+seconds-plain = plain-place (λ a c x y. (x, y))
+
 -- no simple rule changes these bytes
 simple-seconds : (d : Device) (f : ℕ) → seconds (takesSimple d f .device) ≡ seconds d
 simple-seconds d f =
-    untouched-simple {A = ℕ × ℕ} _ (plain-place (λ a c x y. (x, y))) d f
+    untouched-simple seconds seconds-plain d f
     (λ r. record { remoting = λ d x. refl; enabling = λ d x. refl }) (λ a d x. refl) (λ p d x y. refl)
 
 listens-seconds : (d : Device) → seconds (sadListens d) ≡ seconds d
-unfolding sadListens
-listens-seconds d =
-    chosen (λ (e : Device). seconds e ≡ seconds d) (listenPrimary d) _ d
-    (λ l. chosen (λ (e : Device). seconds e ≡ seconds d) (has d listen) _ d
-    (λ h. chosen (λ (e : Device). seconds e ≡ seconds d) (has d unaddress) _ _ (λ u. refl) (λ u. refl))
-    (λ h. refl))
-    (λ l. refl)
-
-talks-seconds : (d : Device) → seconds (sadTalks d) ≡ seconds d
-unfolding sadTalks
-talks-seconds d =
-    chosen (λ (e : Device). seconds e ≡ seconds d) (talkPrimary d) _ d
-    (λ l. chosen (λ (e : Device). seconds e ≡ seconds d) (talks d) _ d
-    (λ h. chosen (λ (e : Device). seconds e ≡ seconds d) (has d unaddress) _ _ (λ u. refl) (λ u. refl))
-    (λ h. refl))
-    (λ l. refl)
+listens-seconds d = sad-listens-same seconds seconds-plain d
 
 sad-seconds : (d : Device) → seconds (sadTalks (sadListens d)) ≡ seconds d
-sad-seconds d = talks-seconds (sadListens d) ∙ listens-seconds d
+sad-seconds d = sad-talks-same seconds seconds-plain d (sadListens d) (listens-seconds d)
 
 lad-flags : (d : Device) (a : ℕ) → a ≡ d .address → has d listen ≡ true →
     extendedLad d a ≡ flagging (toRemote d) received 0

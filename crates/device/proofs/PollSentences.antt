@@ -16,7 +16,7 @@ use Rattle.device.specs.Choose.{choose}
 use Rattle.device.specs.Poll.{isAssigned, sense, bitNumber, answer, answered}
 use Rattle.device.specs.Take.{takes}
 use Rattle.device.specs.PollSentences.{LeavesPoll, onBit, answersAt, IdyBits, IdyC1, pastAll, polledBy}
-use Rattle.device.specs.PollSentences.{PastAll, Each, someOn, allOn, SharedOr, SharedAnd}
+use Rattle.device.specs.PollSentences.{PastAll, someOn, allOn, SharedOr, SharedAnd}
 use Rattle.device.specs.declared.Device.{Device}
 use Rattle.device.proofs.Classes.{idy-frame}
 use Rattle.device.proofs.Marked.{idy-shows, answers, marked-c1}

@@ -10,7 +10,7 @@ use Rattle.frame.specs.Messages.{kindAt}
 use Rattle.frame.specs.Decoding.{decoded}
 use Rattle.frame.specs.declared.Message.{Message}
 use Rattle.device.specs.Choose.{choose}
-use Rattle.device.specs.Device.{listen, status, autoAddress, unaddress, idle, addressed, sendingData}
+use Rattle.device.specs.Device.{listen, status, autoAddress, unaddress, addressed, sendingData}
 use Rattle.device.specs.Device.{sendingStatus, asking, noAddress, halfAssigned, received, parallelPoll, has}
 use Rattle.device.specs.Device.{hasFurther, talks, presentSecond, listenPrimary, talkPrimary, sending}
 use Rattle.device.specs.Change.{listening, talking, placed, serving, noting, counting, remoting, enabling}
@@ -19,7 +19,7 @@ use Rattle.device.specs.Remote.{nre, toRemote, llo, gtl}
 use Rattle.device.specs.Poll.{ppe, ppd}
 use Rattle.device.specs.Commands.{lad, tad, aau}
 use Rattle.device.specs.Clear.{toListener}
-use Rattle.device.specs.Reply.{sends, stops, otherLength, sendsData, sendsOther, continues}
+use Rattle.device.specs.Reply.{sends, otherLength, sendsData, sendsOther, continues}
 use Rattle.device.specs.Ready.{requested, polls, sst, nrd, aad}
 use Rattle.device.specs.Data.{returned, heard, dataOrEnd}
 use Rattle.device.specs.Extended.{commandKind, primaryIdle, heeding, extendedLad, extendedTad, sadListens}
@@ -249,6 +249,26 @@ module _ {A : Type 0} (v : Device → A) (p : Plain v) (d : Device) where
 
 -- ---- an extended device's own rules
 
+module _ {A : Type 0} (v : Device → A) (p : Plain v) (d : Device) where
+  pub sad-listens-same : Same v p d (sadListens d)
+  unfolding sadListens
+  sad-listens-same =
+      chosen (Same v p d) (listenPrimary d) _ d
+      (λ l. chosen (Same v p d) (has d listen) _ d
+      (λ h. chosen (Same v p d) (has d unaddress) _ _ (λ u. p .talking _ _ ∙ p .listening _ _) (λ u. p .listening _ _))
+      (λ h. refl))
+      (λ l. refl)
+
+  pub sad-talks-same : (e : Device) → Same v p d e → Same v p d (sadTalks e)
+  unfolding sadTalks
+  sad-talks-same e q =
+      chosen (Same v p d) (talkPrimary e) _ e
+      (λ t. chosen (Same v p d) (talks e) _ e
+      (λ h. chosen (Same v p d) (has e unaddress) _ _ (λ u. p .talking _ _ ∙ p .listening _ _ ∙ q)
+      (λ u. p .talking _ _ ∙ q))
+      (λ h. q))
+      (λ t. q)
+
 module _ {A : Type 0} (v : Device → A) (p : Plain v) (n : NotFlag v) (d : Device) where
   lost-same : Same v p d (primaryIdle d)
   lost-same = n .neither _
@@ -267,29 +287,11 @@ module _ {A : Type 0} (v : Device → A) (p : Plain v) (n : NotFlag v) (d : Devi
       (λ e. chosen (Same v p d) (talks d) _ _ (λ h. n .talk _) (λ h. p .talking _ _ ∙ lost-same))
       (λ e. p .talking _ _ ∙ lost-same)
 
-  sad-listens-same : Same v p d (sadListens d)
-  unfolding sadListens
-  sad-listens-same =
-      chosen (Same v p d) (listenPrimary d) _ d
-      (λ l. chosen (Same v p d) (has d listen) _ d
-      (λ h. chosen (Same v p d) (has d unaddress) _ _ (λ u. p .talking _ _ ∙ p .listening _ _) (λ u. p .listening _ _))
-      (λ h. refl))
-      (λ l. refl)
-
-  sad-talks-same : (e : Device) → Same v p d e → Same v p d (sadTalks e)
-  unfolding sadTalks
-  sad-talks-same e q =
-      chosen (Same v p d) (talkPrimary e) _ e
-      (λ t. chosen (Same v p d) (talks e) _ e
-      (λ h. chosen (Same v p d) (has e unaddress) _ _ (λ u. p .talking _ _ ∙ p .listening _ _ ∙ q)
-      (λ u. p .talking _ _ ∙ q))
-      (λ h. q))
-      (λ t. q)
-
   pub sad-same : (a : ℕ) → Same v p d (sad d a)
   unfolding sad
   sad-same a =
-      chosen (Same v p d) (eqb a (presentSecond d)) _ _ (λ e. sad-talks-same (sadListens d) sad-listens-same)
+      chosen (Same v p d) (eqb a (presentSecond d)) _ _
+      (λ e. sad-talks-same v p d (sadListens d) (sad-listens-same v p d))
       (λ e. chosen (Same v p d) (talkPrimary d) _ _ (λ t. p .talking _ _ ∙ lost-same) (λ t. lost-same))
 
 module _ {A : Type 0} (v : Device → A) (p : Plain v) (s : Apart v) (d : Device) where

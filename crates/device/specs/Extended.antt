@@ -30,14 +30,16 @@ primaryLost d = choose (hasFurther d extended) (primaryIdle d) d
 unfoldable pub heeding : Device → ℕ → Device
 heeding d k = choose (commandKind k) (primaryIdle d) d
 
--- LAD a, equal to the address now, with ability 1: the listen primary alone is received, and to remote while enabled
+-- LAD a, equal to the address now, with ability 1: the listen primary alone is received, and to remote while enabled;
+-- any other LAD: neither primary
 unfoldable pub extendedLad : Device → ℕ → Device
 extendedLad d a =
     choose (eqb a (d .address))
     (choose (has d listen) (flagging (toRemote d) received 0) (primaryIdle d))
     (primaryIdle d)
 
--- TAD a, equal to the address now, with any of 2-16: the talk primary alone is received; any other TAD: talker 0
+-- TAD a, equal to the address now, with any of 2-16: the talk primary alone is received; any other TAD: neither, and
+-- talker 0
 unfoldable pub extendedTad : Device → ℕ → Device
 extendedTad d a =
     choose (eqb a (d .address))
@@ -58,15 +60,15 @@ sadTalks d =
     (choose (talks d) (choose (has d unaddress) (talking (listening d 0) addressed) (talking d addressed)) d)
     d
 
--- SAD a, equal to the present second address: the first, then the second of these; any other SAD: talker 0 after the
--- talk primary
+-- SAD a, equal to the present second address: the first, then the second of these, and the flags stay; any other SAD:
+-- neither primary, and talker 0 after the talk primary
 unfoldable pub sad : Device → ℕ → Device
 sad d a =
     choose (eqb a (presentSecond d))
     (sadTalks (sadListens d))
     (choose (talkPrimary d) (talking (primaryIdle d) idle) (primaryIdle d))
 
--- AAU: both present addresses the fixed ones, configured 0
+-- AAU: neither primary, both present addresses the fixed ones, configured 0
 abbrev pub extendedAau : Device → Device
 extendedAau d = placed (seconding (primaryIdle d) (fixedSecond d)) (d .fixed) 0
 

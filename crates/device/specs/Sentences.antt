@@ -156,7 +156,7 @@ pub record EventsReported : Type 0 where
   pub only-clear : (d : Device) (f : ℕ) → takes d f .handed ≡ Clear → ClearDue d f
   pub only-trigger : (d : Device) (f : ℕ) → takes d f .handed ≡ Trigger → TriggerDue d f
 
--- A clear or trigger changes nothing that any other command would not, nor does its message where none is due.
+-- A clear or trigger changes no record, but that it is a command, nor does its message where none is due.
 abbrev pub EventsChangeNothing : Type 0
 EventsChangeNothing =
     (d : Device) (f : ℕ) → Of Dcl f ⊎ (Of Sdc f ⊎ Of Get f) → takes d f .device ≡ primaryLost d

@@ -4,14 +4,14 @@ use Prim.Native.Nat.{ℕ, _+_, _*_, _/_, _%_}
 use mathlib.Core.Path.{_≡_, refl, sym, ap, _∙_}
 use mathlib.Core.List.{List}
 use lib.ListN.{length, getD, set}
-use Rattle.device.specs.Device.{received, mostID, mostData}
+use Rattle.device.specs.Device.{received}
 use Rattle.device.specs.Change.{fixedsecond, second, flagging, seconding}
 use Rattle.device.specs.Sent.{Sent}
 use Rattle.device.specs.declared.Device.{Device}
 use Rattle.record.specs.Record.{deviceOf, recordOf}
 use Rattle.record.specs.Written.{IsRecord}
 use Rattle.record.proofs.Laws.{record-wide, read-again, read-sizes}
-use Rattle.state.specs.State.{with, inRecord, sentFrom}
+use Rattle.state.specs.State.{with, inRecord}
 use Rattle.state.specs.declared.State.{State}
 use Rattle.state.specs.declared.Passed.{Passed}
 use Rattle.extended.specs.Own.{Stands, Does}

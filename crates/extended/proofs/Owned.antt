@@ -1,30 +1,20 @@
 -- A frame of one of an extended device's own kinds goes by its rules, and any other as a simple device's, from where
 -- `heeding` has it begin.
-use Prim.Native.Nat.{ℕ, _≤_, _<_}
-use mathlib.Core.Path.{_≡_, refl, sym, ap, _∙_}
+use Prim.Native.Nat.{ℕ}
+use mathlib.Core.Path.{_≡_, ap, _∙_}
 use mathlib.Core.List.{List}
-use mathlib.Core.Bool.{Bool, true, false, not}
-use lib.Dec.{T}
-use borrow.Author.Tests.{not-true}
-use denote.Enum.Declared.{tagOf}
-use types.Run.{OneOf}
-use Rattle.frame.specs.declared.Kind.{Kind}
-use Rattle.frame.specs.Messages.{numberOf, kindAt, messages, firstIn, firstOf, codesIn, codesOf}
-use Rattle.frame.specs.Decoding.{decoded}
-use Rattle.frame.proofs.Kind.{the-type}
+use mathlib.Core.Bool.{true, false}
 use Rattle.device.specs.Choose.{choose}
 use Rattle.device.specs.Device.{extended, hasFurther}
 use Rattle.device.specs.Extended.{commandKind, primaryIdle, heeding}
 use Rattle.device.specs.Reply.{sends}
 use Rattle.device.specs.Sent.{Sent}
-use Rattle.device.specs.Take.{Rule, extendedRules}
 use Rattle.device.specs.declared.Device.{Device}
-use Rattle.device.proofs.Dispatch.{rest, fits, fitting-kind}
 use Rattle.record.specs.Record.{deviceOf}
 use Rattle.state.specs.State.{with, sentWith}
 use Rattle.state.specs.declared.State.{State}
 use Rattle.state.specs.declared.Passed.{Passed}
-use Rattle.extended.specs.Own.{isOwn, Stands, Does}
+use Rattle.extended.specs.Own.{Stands, Does}
 
 -- the frame goes on, and the device after it is the record's
 pub passed : {d : Device} {s : State} {c : List ℕ} (f : ℕ) (p : Passed) {t : Sent} → Stands d s c →

@@ -17,7 +17,8 @@ use Rattle.record.specs.Fits.{Bytes}
 use Rattle.record.specs.Sound.{simpleRight, extendedRight, pollRight}
 use Rattle.record.proofs.Bytes.{bytes-small}
 use Rattle.keeps.proofs.Zeros.{padded-zero}
-use Rattle.keeps.proofs.Groups.{Kept, Talks, simply-of, doubly-of, eq-in, lt-in, only-in}
+use Rattle.keeps.proofs.Groups.{Kept, Talks, eq-in, lt-in, only-in}
+use Rattle.record.proofs.Variants.{simply-of, doubly-of}
 use Rattle.record.proofs.Both.{both-true}
 
 -- a device at other addresses

@@ -9,15 +9,16 @@ use native.Mathlib.Decide.{decLt}
 use lib.Dec.{eqb, ltb, leb}
 use lib.ListN.{length, drop}
 use borrow.Author.Tests.{eqb-true, leb-true, ltb-true, ltb-false, not-true, eq-eqb, le-leb, lt-ltb, le-ltb}
-use Rattle.device.specs.Device.{autoAddress, parallelPoll, extended, has, hasFurther, talks}
+use Rattle.device.specs.Device.{parallelPoll, extended, has, hasFurther, talks}
 use Rattle.device.specs.declared.Device.{Device}
 use Rattle.record.specs.Record.{zeros}
 use Rattle.record.specs.Sound.{only, inRange, zeroPast, serviceWithStatus, unaddressWithBoth, unconfiguredFixed}
-use Rattle.record.specs.Sound.{configuredAble, simpleRight, unconfiguredSecond, configuredBoth, extendedRight}
+use Rattle.record.specs.Sound.{simpleRight, extendedRight}
 use Rattle.record.specs.Sound.{variantRight}
 use Rattle.record.specs.Sound.{listenerAble, serviceAble, sendingAble, addressedAble, dataAble}
 use Rattle.record.specs.Sound.{sentWithin, repliedRight, quietOutside, lastBelow, isAssignment, pollRight, soundDevice}
 use Rattle.record.specs.Fits.{Bytes, Fits, Good}
+use Rattle.record.proofs.Variants.{simply-of, doubly-of}
 use Rattle.record.proofs.Both.{left, right, both-true}
 
 -- what set-up gave, which never changes
@@ -103,41 +104,8 @@ pub record Kept (d : Device) : Type 0 where
   pub talks : Talks d
   pub polls : pollRight d ≡ true
 
--- ---- what the clause on a device's variant says
+-- ---- what the clause on a device's variant says of either
 
-pub record Simply (d : Device) : Type 0 where
-  pub able : configuredAble d ≡ true
-  pub configured : d .configured ≤ 1
-  pub fixedsecond : d .fixedsecond ≡ 0
-  pub second : d .second ≡ 0
-
-pub simply-of : (d : Device) → simpleRight d ≡ true → Simply d
-simply-of d h =
-    record {
-      able = search (left, right);
-      configured = leb-true (d .configured) 1 (search (left, right));
-      fixedsecond = eqb-true (d .fixedsecond) 0 (search (left, right));
-      second = eqb-true (d .second) 0 (search (left, right));
-    }
-
-pub record Doubly (d : Device) : Type 0 where
-  pub unable : not (has d autoAddress) ≡ true
-  pub fixedsecond : d .fixedsecond < 64
-  pub second : d .second < 64
-  pub unconf : unconfiguredSecond d ≡ true
-  pub conf : configuredBoth d ≡ true
-
-pub doubly-of : (d : Device) → extendedRight d ≡ true → Doubly d
-doubly-of d h =
-    record {
-      unable = search (left, right);
-      fixedsecond = ltb-true (d .fixedsecond) 64 (search (left, right));
-      second = ltb-true (d .second) 64 (search (left, right));
-      unconf = search (left, right);
-      conf = search (left, right);
-    }
-
--- of either variant
 pub record Seconds (d : Device) : Type 0 where
   pub fixedsecond : d .fixedsecond < 64
   pub second : d .second < 64

@@ -32,10 +32,11 @@ use Rattle.device.proofs.Chosen.{chosen, selected, by-variant}
 use Rattle.device.proofs.Marked.{Shows, shows, answers, marked-below}
 use Rattle.record_local.specs.Local.{Called}
 use Rattle.record.specs.Fits.{Good}
+use Rattle.record.proofs.Variants.{doubly-of}
 use Rattle.record.proofs.Both.{left, right}
 use Rattle.keeps.specs.Keeps.{TakeKeeps, TakeBelow, LoadKeeps, StatusKeeps, WishKeeps, LastIsData}
 use Rattle.keeps.specs.Keeps.{ChoiceKeeps, KeyKeeps, PollStatusKeeps, GoodOfBytes}
-use Rattle.keeps.proofs.Groups.{Kept, doubly-of, polled-of, kept-of, good-of, eq-out, lt-out}
+use Rattle.keeps.proofs.Groups.{Kept, polled-of, kept-of, good-of, eq-out, lt-out}
 use Rattle.keeps.proofs.Changes.{listening-kept, resting-kept, placed-kept, spot-kept, serving-kept}
 use Rattle.keeps.proofs.Changes.{noting-kept}
 use Rattle.keeps.proofs.Changes.{remoting-kept, enabling-kept, loading-kept, choosing-kept, statusing-kept}

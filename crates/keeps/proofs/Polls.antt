@@ -1,6 +1,6 @@
 -- The clause on poll holds of what PPE, PPD, PPU and the status call leave: with the ability every sense, bit and
 -- status is right, and without sense and bit the rest stays so.
-use Prim.Native.Nat.{ℕ, _+_, _≤_, _<_}
+use Prim.Native.Nat.{ℕ, _≤_, _<_}
 use native.Mathlib.Omega.{arith}
 use mathlib.Core.Path.{_≡_, refl}
 use mathlib.Core.Bool.{Bool, true, false, not, _&&_}
@@ -12,7 +12,7 @@ use Rattle.device.specs.Poll.{assignment, unassigned, ppe, ppd}
 use Rattle.device.specs.declared.Device.{Device}
 use Rattle.device.proofs.Chosen.{chosen}
 use Rattle.record.specs.Sound.{only, isAssignment, pollRight}
-use Rattle.keeps.proofs.Groups.{Kept, Polled, polled-of, only-in}
+use Rattle.keeps.proofs.Groups.{Kept, Polled, polled-of}
 use Rattle.keeps.proofs.Changes.{polling-kept}
 
 module _ (d : Device) (p : Polled d) where

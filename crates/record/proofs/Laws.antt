@@ -1,14 +1,14 @@
 -- The laws of specs/Laws.antt. Head, ID and data stand at fixed places, so that each field is read where it was
 -- written, and no byte of a record is in none of them.
 use mathlib.Core.Path.{_≡_, refl, sym, ap, _∙_}
-use mathlib.Core.List.{List, [], _∷_, _++_}
+use mathlib.Core.List.{List, [], _++_}
 use mathlib.Core.Bool.{true, false, not, _&&_, and-true}
 use lib.Dec.{eqb, leb}
 use Prim.Native.Nat.{ℕ, _+_, _*_, _/_, _%_, _≤_, _<_}
 use native.Mathlib.Omega.{arith}
 use lib.ListN.{length, getD, take, drop, length-drop, length-replicate, take-append-drop}
 use lib.Seq.{drop-drop, take-all}
-use borrow.Author.Tests.{eqb-true, leb-true, not-true, le-leb, lt-ltb}
+use borrow.Author.Tests.{eqb-true, not-true, le-leb, lt-ltb}
 use Rattle.device.specs.Device.{parallelPoll, extended, noAddress, mostID, mostData, hasFurther}
 use Rattle.device.specs.Poll.{unassigned}
 use Rattle.device.specs.PowerOn.{bytesFrom, powerOn}
@@ -22,6 +22,7 @@ use Rattle.record.specs.Fits.{Bytes, Fits, Good}
 use Rattle.record.specs.Laws.{RecordWide, ReadWritten, WriteRead, WriteSound, ReadSound, GoodBytes, PowerOnSound}
 use Rattle.record.specs.Laws.{AnyRemote, AnyPoll, NoPoll, Variants, AnyHalf}
 use Rattle.record.proofs.Both.{left, right}
+use Rattle.record.proofs.Variants.{simply-of, doubly-of}
 use Rattle.record.proofs.Bytes.{small-bytes, zeros-small, bytes-small, bytes-append}
 
 pub record-wide : RecordWide
@@ -187,19 +188,13 @@ simple-right d e h = rw e at h
 extended-right : (d : Device) → hasFurther d extended ≡ true → variantRight d ≡ true → extendedRight d ≡ true
 extended-right d e h = rw e at h
 
-seconds-none : (d : Device) → simpleRight d ≡ true → (d .fixedsecond ≡ 0) × (d .second ≡ 0) × (d .configured ≤ 1)
-seconds-none d h = (
-  eqb-true (d .fixedsecond) 0 (search (left, right)),
-  eqb-true (d .second) 0 (search (left, right)),
-  leb-true (d .configured) 1 (search (left, right)),
-)
-
 pub variants : Variants
 variants =
     record {
-      simple = λ d h e. seconds-none d (simple-right d e (sound-variant d h));
+      simple = λ d h e. let z = simply-of d (simple-right d e (sound-variant d h)) in
+          (z .fixedsecond, z .second, z .configured);
       as-before = λ d e x y c. rw (e, x, y, le-leb (d .configured) 1 c) (simp and-true);
-      no-auto-address = λ d h e. not-true _ (left _ _ (extended-right d e (sound-variant d h)));
+      no-auto-address = λ d h e. not-true _ (doubly-of d (extended-right d e (sound-variant d h)) .unable);
     }
 
 pub any-half : AnyHalf

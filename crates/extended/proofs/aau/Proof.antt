@@ -1,7 +1,6 @@
 -- `extended::aau` meets its contract: the changes are the rule's, one after the other.
 use Prim.Native.Nat.{_%_}
-use mathlib.Core.Path.{_≡_, ap, _∙_}
-use mathlib.Core.List.{List}
+use mathlib.Core.Path.{ap, _∙_}
 use lib.ListN.{getD}
 use borrow.Author.Needs.{needs}
 use Rattle.device.specs.Device.{received}

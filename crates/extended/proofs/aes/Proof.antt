@@ -2,7 +2,6 @@
 use Prim.Native.Nat.{_+_}
 use mathlib.Core.Path.{ap, _∙_}
 use borrow.Author.Needs.{needs}
-use Rattle.device.specs.Device.{halfAssigned}
 use Rattle.device.specs.Change.{placed, seconding}
 use Rattle.device.specs.Extended.{aes}
 use Rattle.device.specs.Reply.{sends}

@@ -15,7 +15,7 @@ use Rattle.device.proofs.Classes.{aes-address}
 use Rattle.device.proofs.Dispatch.{rest, fitting-kind, listed-extended, coded-as}
 use Rattle.record.specs.Record.{deviceOf}
 use Rattle.extended.specs.Own.{isOwn}
-use Rattle.extended.proofs.InPlace.{unchanged, stands, does, stays}
+use Rattle.extended.proofs.InPlace.{unchanged, stands, stays}
 use Rattle.extended.proofs.Owned.{passed, as-well}
 use Rattle.extended.proofs.own.Statement.{statement}
 use Rattle.extended.proofs.own.Tie as tie

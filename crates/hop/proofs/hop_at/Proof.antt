@@ -1,11 +1,9 @@
 -- What is looked up decides: no frame, no room, or the frame passes on.
-use mathlib.Core.Path.{refl, sym, ap, _∙_}
+use mathlib.Core.Path.{refl, sym, _∙_}
 use native.Mathlib.Omega.{arith}
 use native.Mathlib.Numerals.{add-one}
-use Rattle.device.specs.Sent.{Sent}
 use Rattle.area.specs.Loop.{loopOf}
 use Rattle.area.proofs.Areas.{sized}
-use Rattle.calls.specs.Calls.{hopAnswer}
 use Rattle.calls.proofs.Outcomes.{hop-empty, hop-full, hop-done}
 use borrow.Author.Needs.{needs}
 use Rattle.hop.proofs.hop_at.Statement.{statement}

@@ -1,6 +1,5 @@
 -- `set_up::is_items` meets its contract: the tests are the definition's.
 use mathlib.Core.Path.{refl}
-use native.Mathlib.Omega.{arith}
 use borrow.Author.Needs.{needs}
 use Rattle.calls.specs.SetUp.{isItems}
 use Rattle.set_up.proofs.is_items.Statement.{statement}

@@ -1,5 +1,4 @@
 -- `set_up::item_width` meets its contract: each return follows from the test on its way.
-use native.Mathlib.Omega.{arith}
 use borrow.Author.Needs.{needs}
 use borrow.Author.Tests.{eq-eqb, ne-eqb}
 use Rattle.calls.specs.SetUp.{itemWidth}

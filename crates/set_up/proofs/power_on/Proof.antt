@@ -1,5 +1,5 @@
 -- The area holds the first i devices and blank ones; at the end there are no blank ones left.
-use Prim.Native.Nat.{ℕ, _+_, _≤_, _<_, _-_, _*_}
+use Prim.Native.Nat.{ℕ, _+_, _≤_, _-_, _*_}
 use mathlib.Core.Path.{_≡_, refl, ap, _∙_}
 use mathlib.Core.List.{List}
 use native.Mathlib.Omega.{arith}
