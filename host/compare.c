@@ -1,4 +1,4 @@
-/* Compares libpil with the model, call by call: answers, bytes of area and save, beside them and lent in, hops owed.
+/* Compares libpil with the model, call by call: answers, all bytes lent out and in, those beside them, hops owed.
    Use: compare [seed [calls]]. Exit 0: all equal; 1: a difference; 2: a full run reached too little; 3: wrong use. */
 #include "both.h"
 #include "chance.h"
@@ -6,6 +6,7 @@
 #include "order.h"
 #include "polls.h"
 #include "spoil.h"
+#include "walks.h"
 
 #include <inttypes.h>
 #include <signal.h>
@@ -30,11 +31,11 @@ enum {
     ITEMS_ROOM = LONGER_ITEM * (PIL_MOST_DEVICES + 2),      /* longest items tried */
     MOST_LOAD = 40,                                         /* longest load tried */
     DEFAULT_SEED = 20240,
-    DEFAULT_CALLS = 1150000,
+    DEFAULT_CALLS = 1300000,
     FULL_RUN = 1000000, /* calls from which on the counts below are demanded */
     LEAST = 100, /* how often each refusal must be given, and bytes come back, messages, hops owed, loads, ends of data,
-                    events, set-ups, saves, openings, poll statuses, counts of polls and variants of devices be met in
-                    each way */
+                    events, set-ups, saves, openings, poll statuses, counts of polls, variants of devices and walks be
+                    met in each way */
     LEAST_MOVES = 10, /* how often each message must come to a device in each state of remote and local, of polls and of
                          extended addresses, each IDY meet each answer, each event come to a sender, and each number of
                          ones be counted */
@@ -151,14 +152,14 @@ enum old_save { OLD_OPENED, END_CHOSEN, END_NOT_CHOSEN, OLD_WITH_CHOICE, OLD_SAV
    opening of more than there could be; a set-up of one too many; and a length that is wrong but in its lowest byte. */
 enum size { FORMER, MORE, MOST, MORE_OPENED, TOO_MANY, LOW_BYTE_RIGHT, SIZES };
 
-/* Those from DECODE on have no area. */
+/* Those from WALK on are not lent the area: a walk has a copy of its first part. */
 enum which {
-    SET_UP, PUT, HOP, TAKE, LOAD, LOAD_END, STATUS, WISH, KEY, POLL_STATUS, DRAIN, OWED, SAVE, OPEN, DECODE, ENCODE,
-    POLL_COUNT, WHICH
+    SET_UP, PUT, HOP, TAKE, LOAD, LOAD_END, STATUS, WISH, KEY, POLL_STATUS, DRAIN, OWED, SAVE, OPEN, WALK, DECODE,
+    ENCODE, POLL_COUNT, WHICH
 };
 
 static const char *const names[WHICH] = {"set_up", "put", "hop", "take", "load", "load_end", "status", "wish", "key",
-                                         "poll_status", "drain", "owed", "save", "open", "decode", "encode",
+                                         "poll_status", "drain", "owed", "save", "open", "walk", "decode", "encode",
                                          "poll_count"};
 
 /* A call with its arguments; the bytes of set_up, load, load_end and open stand in input. */
@@ -170,6 +171,7 @@ struct call {
     uint64_t third;  /* C1 */
     size_t input_len;
     size_t saved_len; /* of the output of save */
+    struct lent lent; /* to a walk */
 };
 
 /* Every field that any call answers. */
@@ -258,6 +260,11 @@ static struct answer taken_answer(struct pil_taken t)
     return (struct answer){.refusal = t.refusal, .frame = t.frame};
 }
 
+static struct answer walked_answer(struct pil_walked w)
+{
+    return (struct answer){.refusal = w.refusal, .frame = w.frame};
+}
+
 static struct answer decoded_answer(struct pil_decoded d)
 {
     return (struct answer){.refusal = d.refusal, .kind = d.kind, .offset = d.offset, .c1 = d.c1};
@@ -298,6 +305,7 @@ static struct answer make(int side, const struct call *c)
     case OWED: return owing_answer(of->owed(area, c->area_len));
     case SAVE: return refusal_answer(of->save(area, c->area_len, save_of(side), c->saved_len));
     case OPEN: return refusal_answer(of->open(area, c->area_len, input, c->input_len));
+    case WALK: return walked_answer(walk_on(side, &c->lent, c->number));
     case DECODE: return decoded_answer(of->decode(c->number));
     case POLL_COUNT: return polled_answer(of->poll_count(c->number));
     default: return encoded_answer(of->encode(c->number, c->second, c->third));
@@ -337,7 +345,8 @@ static void print_call(const char *how, const struct call *c)
 {
     printf("difference at call %" PRIu64 " of seed %" PRIu64 ": %s\n", made, seed, how);
     printf("  %s, area length %zu, number %" PRIu64 ", second %" PRIu64 ", third %" PRIu64 ", input length %zu, output "
-           "length %zu\n", names[c->which], c->area_len, c->number, c->second, c->third, c->input_len, c->saved_len);
+           "length %zu, lengths of records %zu and told %zu\n", names[c->which], c->area_len, c->number, c->second,
+           c->third, c->input_len, c->saved_len, c->lent.records_len, c->lent.told_len);
 }
 
 static _Noreturn void differs(const char *how, const struct call *c, const struct answer answers[2])
@@ -351,6 +360,8 @@ static _Noreturn void differs(const char *how, const struct call *c, const struc
         print_first_difference("pil's save and the model's", saved[PIL], saved[MODEL], SAVED_ROOM);
         print_first_difference("pil's save and the output before", saved[PIL], saved_before, SAVED_ROOM);
     }
+    if (c->which == WALK)
+        print_walk();
     print_bytes("area before", before + GUARD, c->area_len < ROOM - 2 * GUARD ? c->area_len : ROOM - 2 * GUARD);
     print_bytes("input", input_before, c->input_len < INPUT_ROOM ? c->input_len : INPUT_ROOM);
     printf("  repeat: compare %" PRIu64 " %" PRIu64 "\n", seed, made);
@@ -716,6 +727,8 @@ static void count_answer(const struct call *c, const struct answer *a)
         encodings[encoding(c, a)]++;
     if (c->which == SAVE)
         savings[saving(c, a)]++;
+    if (c->which == WALK)
+        count_walk(&c->lent, c->number, (uint8_t)a->refusal, before + GUARD);
 }
 
 /* Nothing is altered but length bytes behind the guard. */
@@ -726,12 +739,12 @@ static int altered_within(const uint8_t *now, const uint8_t *was, size_t length,
     return memcmp(now, was, GUARD) == 0 && memcmp(now + end, was + end, room - end) == 0;
 }
 
-/* Owed, save and a refused call do not alter the area, an accepted one nothing beyond it, and only an accepted save its
-   output: no model is needed to see this. */
+/* Owed, save, a walk and a refused call do not alter the area, an accepted one nothing beyond it, and only an accepted
+   save its output: no model is needed to see this. */
 static int only_lent_bytes_altered(const struct call *c, const struct answer *a)
 {
     int accepted = a->refusal == PIL_ACCEPTED;
-    int writes = accepted && c->which != OWED && c->which != SAVE;
+    int writes = accepted && c->which != OWED && c->which != SAVE && c->which < WALK;
 
     return altered_within(rooms[PIL], before, writes ? c->area_len : 0, ROOM)
         && (c->which != SAVE || altered_within(saved[PIL], saved_before, accepted ? c->saved_len : 0, SAVED_ROOM));
@@ -956,6 +969,8 @@ static struct answer compare_call(const struct call *c)
     memcpy(input_before, input, INPUT_ROOM);
     if (c->which == SAVE)
         lend_output();
+    if (c->which == WALK)
+        lend_walk(area_of(PIL));
     under_way = c;
     for (int side = PIL; side <= MODEL; side++)
         answers[side] = make(side, c);
@@ -965,6 +980,8 @@ static struct answer compare_call(const struct call *c)
         differs("the areas", c, answers);
     if (c->which == SAVE && memcmp(saved[PIL], saved[MODEL], SAVED_ROOM) != 0)
         differs("the saves", c, answers);
+    if (c->which == WALK && walk_differs(&c->lent, (uint8_t)answers[PIL].refusal))
+        differs(walk_differs(&c->lent, (uint8_t)answers[PIL].refusal), c, answers);
     if (!only_lent_bytes_altered(c, &answers[PIL]))
         differs("bytes altered that may not be", c, answers);
     if (memcmp(input, input_before, INPUT_ROOM) != 0)
@@ -977,7 +994,7 @@ static struct answer compare_call(const struct call *c)
         differs("not polled as the tables say, or not able as the items say", c, answers);
     if (!addressed_by_table(c, &answers[PIL]))
         differs("not assigned or addressed as the tables say", c, answers);
-    if (c->which < DECODE)
+    if (c->which < WALK)
         compare_owed(c, answers);
     under_way = NULL;
     count_answer(c, &answers[PIL]);
@@ -1101,6 +1118,16 @@ static struct call save_call(void)
     return (struct call){.which = SAVE, .saved_len = one_in(3) ? wrong[below(sizeof wrong / sizeof *wrong)] : right};
 }
 
+/* Past the area's devices, mostly with a frame that suits their states, else with a number that may be none. */
+static struct call walk_call(void)
+{
+    uint64_t frame = chance_frame(area_of(MODEL), taken);
+
+    if (one_in(8))
+        frame = one_in(3) ? PIL_FRAMES : wild_number(frame);
+    return (struct call){.which = WALK, .number = frame, .lent = lent_for(n)};
+}
+
 static struct call set_up_call(void)
 {
     size_t length = chance_item_length();
@@ -1152,6 +1179,8 @@ static struct call sensible_call(void)
         c = (struct call){.which = OWED};
     else if (one_in(16))
         c = save_call();
+    else if (one_in(pace == FILLING ? 40 : 12)) /* a walk fills no link */
+        c = walk_call();
     else
         c = pace == PACED ? paced_call() : pace == CROWDED ? crowded_call() : filling_call();
     c.area_len = PIL_AREA_LENGTH(n);
@@ -1397,8 +1426,69 @@ static void damaged_call(void)
     forget_heard();
     damage();
     a = compare_call(&c);
-    if (a.refusal == PIL_SHAPE || a.refusal == PIL_UNSOUND || one_in(2))
-        set_rooms(good);
+    if (a.refusal == PIL_SHAPE || a.refusal == PIL_UNSOUND || c.which == WALK || one_in(2))
+        set_rooms(good); /* a walk does not look at links */
+}
+
+/* Walks that are mostly refused. */
+
+/* A wrong length of the records or of what is told; byte 0 and what is told sometimes fit that of the records. */
+static void wrong_walk_call(void)
+{
+    struct call c = walk_call();
+    uint8_t first = area_of(MODEL)[0];
+
+    if (one_in(2)) {
+        c.lent.told_len = wrong_told_length(n);
+    } else {
+        c.lent.records_len = wrong_records_length(n);
+        if (one_in(2))
+            set_both(0, (unsigned)(c.lent.records_len / PIL_RECORD_LENGTH));
+        if (one_in(2))
+            c.lent.told_len = PIL_TOLD_LENGTH(area_of(MODEL)[0]);
+    }
+    compare_call(&c);
+    set_both(0, first);
+}
+
+/* Past the sound records of one device more than a loop can have. */
+static void too_many_walked(void)
+{
+    static uint8_t good[ROOM];
+    struct call c = walk_call();
+
+    memcpy(good, rooms[MODEL], ROOM);
+    chance_sound_area(area_of(PIL), PIL_MOST_DEVICES + 1);
+    memcpy(rooms[MODEL], rooms[PIL], ROOM);
+    c.lent = lent_for(PIL_MOST_DEVICES + 1);
+    compare_call(&c);
+    set_rooms(good);
+}
+
+/* Past damaged records, or before damaged links; sometimes with another cause of refusal beside it. */
+static void damaged_walk(void)
+{
+    static uint8_t good[ROOM];
+    struct call c = walk_call();
+
+    memcpy(good, rooms[MODEL], ROOM);
+    damage();
+    if (one_in(4))
+        c.lent.told_len = wrong_told_length(n);
+    if (one_in(4))
+        set_both(PIL_HEADER_ZEROS + below(PIL_HEADER_LENGTH - PIL_HEADER_ZEROS), 1u << below(8));
+    compare_call(&c);
+    set_rooms(good);
+}
+
+static void refused_walk(void)
+{
+    switch (below(6)) {
+    case 0: too_many_walked(); break;
+    case 1:
+    case 2: wrong_walk_call(); break;
+    default: damaged_walk();
+    }
 }
 
 /* Saves opened. */
@@ -1820,7 +1910,7 @@ static void history(void)
             give_polls();
         if (one_in(12))
             give_addresses();
-        switch (below(23)) {
+        switch (below(24)) {
         case 0: wild_number_call(); break;
         case 1: wrong_length_call(); break;
         case 2:
@@ -1829,7 +1919,8 @@ static void history(void)
         case 5: one_in(3) ? count_some() : there_and_back(code_call()); break;
         case 6:
         case 7: open_some(); break;
-        case 8: pace == FILLING ? go_on() : address_some(); break; /* links are left to fill */
+        case 8: pace == FILLING ? go_on() : address_some(); break; /* links are left to fill, here and below */
+        case 9: pace == FILLING ? go_on() : refused_walk(); break;
         default: go_on();
         }
     }
@@ -2382,6 +2473,96 @@ static int compare_items(void)
     return all;
 }
 
+/* Walks (02, l): each frame past three devices in a row, the first in many standings. */
+
+enum { FIRST, ASKING, LISTENING, THREE, STANDS = PRIMARIES * 2 * TALKERS };
+
+static void set_up_three(void)
+{
+    static const uint8_t mores[THREE] = {PIL_MORE_EXTENDED, PIL_MORE_POLL, 0};
+    uint8_t items[PIL_EXTENDED_ITEMS_LENGTH(THREE)] = {0};
+
+    n = THREE;
+    for (unsigned i = 0; i < THREE; i++) {
+        uint8_t *item = items + PIL_EXTENDED_ITEM_AT(i);
+
+        item[PIL_ITEM_ABILITIES] = i == FIRST ? NO_AUTO : 0xff;
+        item[PIL_ITEM_FIXED] = OWN_ADDRESS;
+        item[PIL_ITEM_ID_LENGTH] = 2;
+        item[PIL_ITEM_MORE] = mores[i];
+        item[PIL_ITEM_SECOND] = i == FIRST ? FIXED_SECOND : 0;
+    }
+    if (model_set_up(area_of(PIL), PIL_AREA_LENGTH(n), items, sizeof items) != PIL_ACCEPTED)
+        wrong_material("three devices");
+}
+
+/* An extended device that stands so, one that asks for service, answers polls and awaits an AAD, and a listener. */
+static void lend_three(const struct stand *s)
+{
+    uint8_t *first = area_of(PIL) + PIL_RECORD_AT(FIRST), *asking = area_of(PIL) + PIL_RECORD_AT(ASKING);
+
+    set_up_three();
+    first[PIL_RECORD_LISTENER] = s->listener;
+    first[PIL_RECORD_TALKER] = s->talker;
+    if (s->talker >= PIL_TALKER_DATA)
+        make_sender(first);
+    make_addresses(first, s);
+    asking[PIL_RECORD_SERVICE] = PIL_SERVICE_ASKING;
+    asking[PIL_RECORD_POLL] = (uint8_t)sound_told(PPES);
+    asking[PIL_RECORD_POLL_STATUS] = 1;
+    area_of(PIL)[PIL_RECORD_AT(LISTENING) + PIL_RECORD_LISTENER] = 1;
+    memcpy(rooms[MODEL], rooms[PIL], ROOM);
+}
+
+/* What all these walks tell, the addresses that AADs gave in the middle, and the IDYs that came out answered there. */
+static struct {
+    uint64_t told[TELLINGS], assigned, answered;
+} walk_sums;
+
+static void compare_walks_past(const struct stand *s)
+{
+    uint64_t was[TELLINGS];
+
+    lend_three(s);
+    for (unsigned i = 0; i < TELLINGS; i++)
+        was[i] = tellings_of[0][i] + tellings_of[1][i];
+    for (unsigned frame = 0; frame < PIL_FRAMES; frame++) {
+        struct call c = {.which = WALK, .number = frame, .lent = lent_for(THREE)};
+        unsigned out = (unsigned)compare_call(&c).frame;
+
+        walk_sums.assigned += walked_record(ASKING)[PIL_RECORD_CONFIGURED] == PIL_CONFIGURED;
+        walk_sums.answered += frame >= FIRST_IDY && out == (frame | PIL_C1 | 1u << (DATA_BITS - 1));
+    }
+    for (unsigned i = 0; i < TELLINGS; i++)
+        walk_sums.told[i] += tellings_of[0][i] + tellings_of[1][i] - was[i];
+}
+
+/* Of 48 standings the first device is handed bytes in 8, the last in the 16 where the first does not send, and three
+   replies in the 8 where it is addressed. SDC and GET act on the last, and in half of the standings on the first. */
+static int compare_walks(void)
+{
+    const uint64_t bytes = 0x200 * (8 + 16) + 3 * 8, ends = 0x200 * (8 + 16), triggers = STANDS + STANDS / 2;
+    const uint64_t clears = THREE * STANDS + triggers, in_all = (uint64_t)THREE * STANDS * PIL_FRAMES;
+    int all;
+
+    for (unsigned how = 0; how < STANDS; how++) {
+        struct stand s = {NO_AUTO, (uint8_t)(how % ASSIGNEDS), (uint8_t)(how % PRIMARIES),
+                          (uint8_t)(how / PRIMARIES % 2), (uint8_t)(how / PRIMARIES / 2)};
+
+        compare_walks_past(&s);
+    }
+    all = walk_sums.told[TOLD_BYTE] == bytes && walk_sums.told[TOLD_END] == ends
+        && walk_sums.told[TOLD_CLEAR] == clears && walk_sums.told[TOLD_TRIGGER] == triggers
+        && walk_sums.told[TOLD_NOTHING] == in_all - bytes - ends - clears - triggers
+        && walk_sums.assigned == STANDS * PIL_NO_ADDRESS && walk_sums.answered == STANDS * (PIL_FRAMES - FIRST_IDY);
+    printf("walks: every frame past three devices in %d standings: %" PRIu64 " bytes handed without end bit, %" PRIu64
+           " with it, %" PRIu64 " clears, %" PRIu64 " triggers, %" PRIu64 " times nothing told; %" PRIu64 " addresses "
+           "given, %" PRIu64 " IDYs answered%s\n", STANDS, walk_sums.told[TOLD_BYTE], walk_sums.told[TOLD_END],
+           walk_sums.told[TOLD_CLEAR], walk_sums.told[TOLD_TRIGGER], walk_sums.told[TOLD_NOTHING], walk_sums.assigned,
+           walk_sums.answered, all ? "" : "  NOT ALL");
+    return all;
+}
+
 static void compare_table(void)
 {
 #if HAVE_KINDS
@@ -2575,6 +2756,23 @@ static int report_saves(void)
     return enough;
 }
 
+static int report_walks(void)
+{
+    int enough = report_counts("walks accepted (0), refused with 1 for a length of no loop (1), another than byte 0's "
+                               "(2), one device too many (3), what is told (4), also where the records are unsound "
+                               "(5), with 2 for the header (6), records (7), the last one alone (8), also where the "
+                               "frame is over 2,047 (9), with 4 (10)", walkings, 0, WALKINGS, LEAST);
+
+    enough &= report_counts("simple devices walked past: nothing told (0), a byte (1), an end byte (2), a clear (3), a "
+                            "trigger (4)", tellings_of[0], 0, TELLINGS, LEAST);
+    enough &= report_counts("extended ones", tellings_of[1], 0, TELLINGS, LEAST);
+    enough &= report_counts("walks past one device (0), past some (1), past as many as there can be (2)", pasts, 0,
+                            PASTS, LEAST);
+    enough &= report_counts("walks over the records of an area with empty links (0), with frames in them (1), with "
+                            "links that are not sound (2)", behinds, 0, BEHINDS, LEAST);
+    return enough;
+}
+
 static int report(void)
 {
     int enough = 1;
@@ -2601,6 +2799,7 @@ static int report(void)
                             "(3), a C1 over 1 (4), a C1 of 1 on a kind without one (5), several causes (6)", encodings,
                             0, ENCODINGS, LEAST);
     enough &= report_saves();
+    enough &= report_walks();
     enough &= report_counts("histories of no more devices than there could be before 02, j (0), of more (1), of as "
                             "many as there can be (2), openings of more than before accepted (3), set-ups of one too "
                             "many (4), lengths wrong but in the lowest byte (5)", sizes, 0, SIZES, LEAST);
@@ -2638,6 +2837,7 @@ int main(int argc, char **argv)
     enough &= compare_extended();
     enough &= compare_second_bytes();
     enough &= compare_items();
+    enough &= compare_walks();
     enough &= order_histories(seed, wanted / 500);
     return enough || wanted < FULL_RUN ? 0 : 2;
 }

@@ -7,9 +7,9 @@
 #include <stdlib.h>
 #include <string.h>
 
-enum { SDA = 0x560, ETO = 0x540, MOST_ROUNDS = 100 };
+enum { SDA = 0x560, ETO = 0x540, ETE = 0x541, MOST_ROUNDS = 100 };
 
-static uint8_t area[LOOP_LENGTH], save[LOOP_SAVE_LENGTH];
+static uint8_t area[LOOP_LENGTH], save[LOOP_SAVE_LENGTH], told[PIL_TOLD_LENGTH(LOOP_DEVICES)];
 
 /* Idle loops with frames in link 0. */
 
@@ -94,6 +94,63 @@ static unsigned whole_record(const struct calls *of)
     return rounds;
 }
 
+static unsigned walk(const struct calls *of, unsigned frame)
+{
+    return of->walk(area, PIL_RECORDS_LENGTH(LOOP_DEVICES), frame, told, sizeof told).frame;
+}
+
+static unsigned walk_of_byte(const struct calls *of)
+{
+    return walk(of, 0x041);
+}
+
+static unsigned walk_of_nul(const struct calls *of)
+{
+    return walk(of, 0x400);
+}
+
+static unsigned walk_of_tad(const struct calls *of)
+{
+    return walk(of, 0x445);
+}
+
+/* Whether some bits were made ones: which, depends on the devices. */
+static unsigned walk_of_idy(const struct calls *of)
+{
+    return walk(of, 0x600) > 0x600;
+}
+
+static unsigned walk_of_aad(const struct calls *of)
+{
+    return walk(of, 0x580);
+}
+
+static unsigned walk_of_own_byte(const struct calls *of)
+{
+    return walk(of, LOOP_OWN_BYTE);
+}
+
+/* What a walk of it is to be the same as. */
+static unsigned hops_of_byte(const struct calls *of)
+{
+    of->put(area, sizeof area, 0x041);
+    for (unsigned i = 0; i < LOOP_DEVICES; i++)
+        of->hop(area, sizeof area, i);
+    return of->take(area, sizeof area).frame;
+}
+
+/* The rounds of a whole record, by walks. */
+static unsigned whole_record_walked(const struct calls *of)
+{
+    unsigned frame = SDA, rounds = 0;
+
+    while (frame != ETO && rounds < MOST_ROUNDS) {
+        frame = walk(of, frame);
+        rounds++;
+    }
+    return rounds;
+}
+
 static const struct {
     const char *name;
     void (*ready)(uint8_t *);
@@ -115,6 +172,14 @@ static const struct {
     {"busy loop: save", busy_loop, saving, PIL_LINK_DEPTH},
     {"busy loop: opening", saved_busy_loop, opening, PIL_LINK_DEPTH},
     {"a talker's 32 bytes sent round, 33 rounds", talker_loop, whole_record, 33},
+    {"walk of a data byte past listeners", listening_loop, walk_of_byte, 0x041},
+    {"the same by put, hops and take", listening_loop, hops_of_byte, 0x041},
+    {"walk of a NUL", idle_loop, walk_of_nul, 0x400},
+    {"walk of a TAD", idle_loop, walk_of_tad, 0x445},
+    {"walk of an IDY, answered", polled_loop_to_walk, walk_of_idy, 1},
+    {"walk of an AAD, taken by every device", idle_loop, walk_of_aad, 0x580 + LOOP_DEVICES},
+    {"busy loop: walk of a data byte", busy_loop_to_walk, walk_of_own_byte, ETE},
+    {"a talker's 32 bytes walked round, 33 rounds", talker_loop, whole_record_walked, 33},
 };
 
 enum { CASES = sizeof cases / sizeof *cases };

@@ -124,6 +124,31 @@ void polled_loop(uint8_t *area)
     fill_link(area, 0, PIL_LINK_DEPTH, IDY, 1);
 }
 
+static void empty_links(uint8_t *area)
+{
+    for (unsigned link = 0; link <= LOOP_DEVICES; link++)
+        fill_link(area, link, 0, 0, 0);
+}
+
+void busy_loop_to_walk(uint8_t *area)
+{
+    busy_loop(area);
+    empty_links(area);
+}
+
+void polled_loop_to_walk(uint8_t *area)
+{
+    polled_loop(area);
+    empty_links(area);
+}
+
+void listening_loop(uint8_t *area)
+{
+    idle_loop(area);
+    for (unsigned i = 0; i < LOOP_DEVICES; i++)
+        area[PIL_RECORD_AT(i) + PIL_RECORD_LISTENER] = 1;
+}
+
 void extended_loop(uint8_t *area)
 {
     idle_loop(area);

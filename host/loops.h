@@ -16,7 +16,8 @@ enum {
     LOOP_SAVE_LENGTH = PIL_SAVE_LENGTH(LOOP_DEVICES), /* .. and of its save */
     LOOP_TALKER_STATES = PIL_TALKER_ACCESSORY + 1,
     LOOP_FIRST_BYTE = 0xb8, /* a full record's ID and data, which stand together, count up from this byte .. */
-    LOOP_LAST_BYTE = LOOP_FIRST_BYTE + PIL_MOST_ID + PIL_MOST_DATA - 1 /* .. to this one */
+    LOOP_LAST_BYTE = LOOP_FIRST_BYTE + PIL_MOST_ID + PIL_MOST_DATA - 1, /* .. to this one */
+    LOOP_OWN_BYTE = LOOP_FIRST_BYTE + PIL_MOST_ID + PIL_MOST_DATA / 2 - 1 /* what a full record that sends data sent */
 };
 
 /* Devices at power-on with every ability and no address; links empty. */
@@ -37,6 +38,12 @@ void busy_loop_to_drain(uint8_t *area);
 /* An idle loop whose devices answer parallel polls, told by the PPEs in turn, every third status yes; link 0 holds
    four IDYs. */
 void polled_loop(uint8_t *area);
+/* The busy and the polled loop for a walk: all links empty. A walk of LOOP_OWN_BYTE is its own byte to the first device
+   that sends data, and what that one sends ends another's talk with ETE. */
+void busy_loop_to_walk(uint8_t *area);
+void polled_loop_to_walk(uint8_t *area);
+/* An idle loop of listeners. */
+void listening_loop(uint8_t *area);
 /* An idle loop of extended devices, each with a second address of its own behind one primary; link 0 holds the TAD of
    that primary and the SAD of the first device, and the same for the last. */
 void extended_loop(uint8_t *area);

@@ -476,19 +476,27 @@ static int link_sound(const uint8_t *link)
     return all_zero(frames, 2 * link[PIL_LINK_COUNT], 2 * PIL_LINK_DEPTH);
 }
 
+/* The header and the first so many records and links. */
+static int parts_sound(const uint8_t *area, unsigned records, unsigned links)
+{
+    unsigned n = area[PIL_HEADER_DEVICES];
+
+    if (!all_zero(area, PIL_HEADER_ZEROS, PIL_HEADER_LENGTH) && (links > 0 || MODEL_FAULT != 247))
+        return 0;
+    for (unsigned i = 0; i < records; i++)
+        if (!record_sound(area + PIL_RECORD_AT(i)))
+            return 0;
+    for (unsigned i = 0; i < links; i++)
+        if (!link_sound(area + PIL_LINK_AT(n, i)))
+            return 0;
+    return 1;
+}
+
 static int area_sound(const uint8_t *area)
 {
     unsigned n = area[PIL_HEADER_DEVICES];
 
-    if (!all_zero(area, PIL_HEADER_ZEROS, PIL_HEADER_LENGTH))
-        return 0;
-    for (unsigned i = 0; i < n; i++)
-        if (!record_sound(area + PIL_RECORD_AT(i)))
-            return 0;
-    for (unsigned i = 0; i <= n; i++)
-        if (!link_sound(area + PIL_LINK_AT(n, i)))
-            return 0;
-    return 1;
+    return parts_sound(area, n, n + 1);
 }
 
 /* The length is that of the loop that byte 0 names; an area shorter than one device's may have no byte 0. */
@@ -1545,6 +1553,96 @@ struct pil_owing model_owed(const uint8_t *area, size_t area_len)
     if (MODEL_FAULT == 10)
         owing.hops += owed_by_link(area + PIL_LINK_AT(n, n), 1);
     return owing;
+}
+
+/* The plain engine: 02, l. It has no links: what a device sends, the next one takes. */
+
+/* The number of devices whose header and records these are, 0 if the length is wrong. */
+static unsigned devices_of_records(const uint8_t *records, size_t records_len)
+{
+    unsigned n = records_len < PIL_RECORDS_LENGTH(1) ? 0 : records[PIL_HEADER_DEVICES];
+    unsigned most = PIL_MOST_DEVICES - (MODEL_FAULT == 242) + (MODEL_FAULT == 243);
+
+    if (MODEL_FAULT == 244 && records_len % PIL_RECORD_LENGTH == PIL_HEADER_LENGTH)
+        n = (unsigned)(records_len / PIL_RECORD_LENGTH);
+    if (n > most)
+        return 0;
+    if (MODEL_FAULT == 241 && records_len % 256 == PIL_RECORDS_LENGTH(n) % 256)
+        return n;
+    if (MODEL_FAULT == 245 && records_len == PIL_AREA_LENGTH(n))
+        return n;
+    return records_len == PIL_RECORDS_LENGTH(n) ? n : 0;
+}
+
+/* As much of soundness as there is without links. With fault 258 the other records wait for the walk. */
+static int walk_sound(const uint8_t *records, unsigned n)
+{
+    return parts_sound(records, MODEL_FAULT == 258 ? 1 : n - (MODEL_FAULT == 248), 0);
+}
+
+static int frame_allowed(uint64_t frame)
+{
+    return (MODEL_FAULT == 250 ? frame % (UINT16_MAX + 1) : frame) < PIL_FRAMES + (MODEL_FAULT == 249);
+}
+
+static uint8_t walk_refusal(const uint8_t *records, unsigned n, uint64_t frame, size_t told_len)
+{
+    int told_right = n > 0 && (told_len == PIL_TOLD_LENGTH(n) || MODEL_FAULT == 240);
+
+    if (n == 0 || (!told_right && MODEL_FAULT != 246))
+        return PIL_SHAPE;
+    if (MODEL_FAULT == 256 && !frame_allowed(frame))
+        return PIL_BAD_FRAME;
+    if (!walk_sound(records, n))
+        return PIL_UNSOUND;
+    if (!told_right)
+        return PIL_SHAPE;
+    return frame_allowed(frame) ? PIL_ACCEPTED : PIL_BAD_FRAME;
+}
+
+/* Tells of device i of n what its hop would answer. With fault 260 what is told stands by what it is, not by device. */
+static void tell(uint8_t *told, unsigned i, unsigned n, const struct pil_hopped *hopped)
+{
+    uint8_t *at = told + (MODEL_FAULT == 260 ? i : PIL_TOLD_AT(i));
+    unsigned step = MODEL_FAULT == 260 ? n : 1;
+
+    if (MODEL_FAULT == 251 && !hopped->handed && !hopped->event)
+        return;
+    at[PIL_TOLD_HANDED * step] = hopped->handed;
+    at[PIL_TOLD_BYTE * step] = hopped->byte;
+    at[PIL_TOLD_END * step] = MODEL_FAULT == 253 ? 0 : hopped->end;
+    at[PIL_TOLD_EVENT * step] = MODEL_FAULT == 252 ? 0 : hopped->event;
+}
+
+/* Past each of n devices; gives the frame that comes out. */
+static struct pil_walked walk(uint8_t *records, unsigned n, unsigned frame, uint8_t *told)
+{
+    unsigned put = frame, came = frame;
+
+    for (unsigned i = 0; i < n - (MODEL_FAULT == 255); i++) {
+        uint8_t *r = records + PIL_RECORD_AT(i);
+        struct pil_hopped hopped;
+
+        if (MODEL_FAULT == 258 && !record_sound(r))
+            return (struct pil_walked){.refusal = PIL_UNSOUND};
+        came = frame;
+        hopped = device_takes(r, MODEL_FAULT == 254 ? put : frame);
+        tell(told, i, n, &hopped);
+        frame = hopped.frame;
+    }
+    return (struct pil_walked){.frame = (uint16_t)(MODEL_FAULT == 259 ? came : frame)};
+}
+
+struct pil_walked model_walk(uint8_t *records, size_t records_len, uint64_t frame, uint8_t *told, size_t told_len)
+{
+    unsigned n = devices_of_records(records, records_len);
+    uint8_t refusal = walk_refusal(records, n, frame, told_len);
+
+    if (MODEL_FAULT == 257 && refusal == PIL_BAD_FRAME)
+        memset(told, 0, told_len);
+    if (refusal)
+        return (struct pil_walked){.refusal = refusal};
+    return walk(records, n, (unsigned)frame, told);
 }
 
 /* Saved loops: 02, a and h. The bodies of a save in a row are the bytes of its area, but for the edition. */

@@ -1,5 +1,5 @@
 /* An independent model of the papers 01 and 02 in plain C: the calls of pil.h under names of its own, over the same
-   area, and the lister. Compiled with MODEL_FAULT 1 to 239 it has a deliberate fault, for checks of the comparison. */
+   area, and the lister. Compiled with MODEL_FAULT 1 to 260 it has a deliberate fault, for checks of the comparison. */
 #ifndef MODEL_H
 #define MODEL_H
 
@@ -18,6 +18,7 @@ uint8_t model_key(uint8_t *area, size_t area_len, uint64_t device);
 uint8_t model_poll_status(uint8_t *area, size_t area_len, uint64_t device, uint64_t status);
 struct pil_drained model_drain(uint8_t *area, size_t area_len, uint64_t budget);
 struct pil_owing model_owed(const uint8_t *area, size_t area_len);
+struct pil_walked model_walk(uint8_t *records, size_t records_len, uint64_t frame, uint8_t *told, size_t told_len);
 uint8_t model_save(const uint8_t *area, size_t area_len, uint8_t *save, size_t save_len);
 uint8_t model_open(uint8_t *area, size_t area_len, const uint8_t *save, size_t save_len);
 struct pil_decoded model_decode(uint64_t frame);

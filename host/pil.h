@@ -16,7 +16,7 @@
 /* The version: the first number rises where a bench has to be changed or compiled anew, the second where something is
    added. */
 #define PIL_VERSION_MAJOR 4
-#define PIL_VERSION_MINOR 2
+#define PIL_VERSION_MINOR 3
 #define PIL_VERSION_PATCH 0
 #define PIL_VERSION (PIL_VERSION_MAJOR * 10000 + PIL_VERSION_MINOR * 100 + PIL_VERSION_PATCH)
 
@@ -31,13 +31,14 @@ enum {
     PIL_SHAPE = 1,      /* the area's length is that of no loop or, but at set-up and opening, not that of its byte 0,
                            as where it was not set up or opened yet; at set-up items of none of 12, 13 and 14 bytes
                            a device, at saving an output of another length; at opening an area of another length than
-                           the saved loop's */
+                           the saved loop's; at a walk records whose length is that of no loop's records or not that of
+                           their byte 0, or another length of what is told than theirs asks for */
     PIL_UNSOUND = 2,    /* the area's contents break a rule of "What is sound" below; at set-up an item does, at opening
-                           the saved contents do; a load's choice is not 0 or 1; in a save made before version 3 byte
-                           19 of a record (PIL_RECORD_END) is not zero */
+                           the saved contents do, at a walk header or records do; a load's choice is not 0 or 1; in a
+                           save made before version 3 byte 19 of a record (PIL_RECORD_END) is not zero */
     PIL_NO_DEVICE = 3,  /* the device number is the number of devices or more */
-    PIL_BAD_FRAME = 4,  /* a frame over 2,047; a kind or offset outside the message table, a C1 that is not 0 or 1, or a
-                           C1 of 1 on a kind without one; at a poll count, any number that is no IDY */
+    PIL_BAD_FRAME = 4,  /* a frame over 2,047, at a walk too; a kind or offset outside the message table, a C1 that is
+                           not 0 or 1, or a C1 of 1 on a kind without one; at a poll count, any number that is no IDY */
     PIL_EMPTY = 5,      /* the link to take from holds no frame */
     PIL_FULL = 6,       /* the link to add to holds four frames */
     PIL_NO_ABILITY = 7, /* the device lacks the ability: data for a load, status for a status, service request for a
@@ -60,9 +61,9 @@ enum {
                             which of them. The frame has gone on here too */
 };
 
-/* What a hop reports besides a byte handed. It alters nothing in the record: what a device does when it is cleared or
-   triggered is the bench's part. (DCL, SDC and GET are commands like others to an extended device that waits for its
-   SAD.) */
+/* What a hop reports, and a walk tells, besides a byte handed. It alters nothing in the record: what a device does when
+   it is cleared or triggered is the bench's part. (DCL, SDC and GET are commands like others to an extended device that
+   waits for its SAD.) */
 enum {
     PIL_EVENT_NONE = 0,   /* nothing of the kind */
     PIL_EVENT_CLEAR = 1,  /* the device is cleared: at every DCL, at SDC if it is a listener */
@@ -140,6 +141,7 @@ enum {
     PIL_HEADER_LENGTH = 8,         /* the area's header */
     PIL_RECORD_LENGTH = 64,        /* a device's record */
     PIL_LINK_LENGTH = 10,          /* a link */
+    PIL_TOLD_EACH = 4,             /* what a walk tells of each device */
     PIL_SAVE_HEAD_LENGTH = 6       /* what stands before each body in a save */
 };
 
@@ -149,6 +151,11 @@ enum {
 #define PIL_RECORD_AT(i) (PIL_HEADER_LENGTH + PIL_RECORD_LENGTH * (size_t)(i))
 /* Where link i of a loop of n devices begins. */
 #define PIL_LINK_AT(n, i) (PIL_RECORD_AT(n) + PIL_LINK_LENGTH * (size_t)(i))
+/* Header and records of n devices, the area's first part, which is all that a walk is lent of it. */
+#define PIL_RECORDS_LENGTH(n) PIL_RECORD_AT(n)
+/* The length of what a walk tells of n devices, and where it tells of device i. */
+#define PIL_TOLD_LENGTH(n) (PIL_TOLD_EACH * (size_t)(n))
+#define PIL_TOLD_AT(i) (PIL_TOLD_EACH * (size_t)(i))
 /* The length of n devices' set-up items, and where device i's item begins. */
 #define PIL_ITEMS_LENGTH(n) (PIL_ITEM_LENGTH * (size_t)(n))
 #define PIL_ITEM_AT(i) (PIL_ITEM_LENGTH * (size_t)(i))
@@ -248,6 +255,14 @@ enum {
     PIL_LINK_FRAMES = 2 /* four frames of two bytes, little-endian, oldest first, unused ones zero */
 };
 
+/* Offsets in what a walk tells of a device: what a hop of it answers under the same names. */
+enum {
+    PIL_TOLD_HANDED = 0, /* 1 if the device was handed a byte, else 0 */
+    PIL_TOLD_BYTE = 1,   /* the byte handed, else 0 */
+    PIL_TOLD_END = 2,    /* its end bit, else 0 */
+    PIL_TOLD_EVENT = 3   /* whether the device is cleared or triggered: PIL_EVENT_NONE to PIL_EVENT_TRIGGER */
+};
+
 /* Offsets in a head of a save; the body stands behind it. */
 enum {
     PIL_SAVE_BODY_LENGTH = 0, /* the body's length: four bytes, little-endian */
@@ -345,6 +360,7 @@ enum {
    Either choice for the last byte is sound in every record, also where there is no data or no ability for it; and so is
    every state of remote and local, with the enable flag 0 or 1 and whatever the abilities; and, in an extended device,
    either primary received or both, whatever the abilities.
+   A walk is lent no links, and refused with 2 where header or records break one of these.
    So damage that breaks a rule gives 2, and any change of byte 0 gives 1: no other count of devices fits the area's
    length. Damage that leaves a sound area is not seen. A record is judged by itself, so that one copied from another
    sound area may take a device's place (example.c exchanges a meter so).
@@ -366,6 +382,12 @@ struct pil_hopped {
 /* What a take answers. */
 struct pil_taken {
     uint16_t frame;  /* the frame taken out at the tail */
+    uint8_t refusal; /* 0 if accepted */
+};
+
+/* What a walk answers. What happened at each device on the way is told beside it. */
+struct pil_walked {
+    uint16_t frame;  /* the frame that came out behind the last device */
     uint8_t refusal; /* 0 if accepted */
 };
 
@@ -408,9 +430,10 @@ struct pil_encoded {
 
 /* The calls. A uint8_t answer is the refusal; in a struct look at the refusal first, since the frame 0 that a refused
    call answers would be a data byte. Pointers are not null, at length 0 either; items, bytes to load and saves lie
-   outside the area. Any number may be passed for a uint64_t. Each call on an area but set-up and opening judges the
-   whole of it before it does anything. A bench may read the area between calls, and write to it at its own risk: what
-   is not sound is refused, what is sound is believed. */
+   outside the area, and what a walk tells outside the records. Any number may be passed for a uint64_t. Each call on
+   an area but set-up and opening judges the whole of it before it does anything, a walk all that it is lent of it. A
+   bench may read the area between calls, and write to it at its own risk: what is not sound is refused, what is sound
+   is believed. */
 
 /* Writes the power-on loop of the items' devices into the area, whatever that held. The area's length says how many
    devices there are, PIL_AREA_LENGTH(n) for n, and there are n items, all of PIL_ITEM_LENGTH bytes, all of
@@ -423,6 +446,14 @@ uint8_t pil_put(uint8_t *area, size_t area_len, uint64_t frame);
 struct pil_hopped pil_hop(uint8_t *area, size_t area_len, uint64_t device);
 /* Takes the oldest frame out of the tail. Gives 1, 2, 5. */
 struct pil_taken pil_take(uint8_t *area, size_t area_len);
+/* Walks a frame of any kind past every device in order, without links: each does with it what it would at a hop, and
+   the next one gets what it sent. Lent are header and records, the first PIL_RECORDS_LENGTH(n) bytes of an area or a
+   copy of them, and PIL_TOLD_LENGTH(n) bytes in which it tells of every device what a hop would answer, over whatever
+   they held and with zeros where nothing happened. On a sound area with empty links a put, a hop of each device in
+   order and a take come to the same records, bytes handed, events and frame out, and none of them is refused with 6.
+   It is written apart from those, as a second witness. Frames in links are not looked at and stay behind. Leaves all
+   that is lent as it was where it refuses. Gives 1, 2, 4. */
+struct pil_walked pil_walk(uint8_t *records, size_t records_len, uint64_t frame, uint8_t *told, size_t told_len);
 /* Gives the device new data to send, none of it sent yet; with no bytes the device has nothing to send. The choice end
    says how the last byte goes out, PIL_LAST_PLAIN or PIL_LAST_END, and is kept in the record, with no bytes too; any
    other number gives 2. Refused while it sends data: its talk has to end first (by ETO or ETE, UNT, IFC, any TAD or,

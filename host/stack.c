@@ -1,5 +1,5 @@
-/* The stack that hop, drain, save and open take, libpil's and the model's: each runs on a painted stack that shows the
-   deepest byte touched and copies of a record. Use: stack [HOP DRAIN]; exit 1: libpil exceeds a limit or copies. */
+/* The stack that hop, drain, walk, save and open take, libpil's and the model's: each runs on a painted stack, which
+   shows the deepest byte touched and copies of a record. Use: stack [HOP DRAIN WALK]; exit 1: too much, or a copy. */
 #include "loops.h"
 #include "model.h"
 
@@ -36,24 +36,26 @@ static uint8_t ready[LOOP_LENGTH], area[LOOP_LENGTH];
 static uint8_t save[LOOP_SAVE_LENGTH], old_save[LOOP_SAVE_LENGTH]; /* of what is ready, as it is written now and was */
 static uint8_t upgraded[LOOP_LENGTH];    /* what the old save opens to */
 static uint8_t output[LOOP_SAVE_LENGTH]; /* what is saved */
+static uint8_t told[PIL_TOLD_LENGTH(LOOP_DEVICES)]; /* by a walk */
 
 /* What is measured. A refused hop shows what the test of soundness leaves, which a hop may write over. */
 static const struct call {
     const char *name;
     function *of[2];
-    uint64_t number; /* the device, the budget, or where an output or a save is */
+    uint64_t number; /* the device, the budget, or where an output or a save is; a walk's is its frame */
     unsigned frames; /* how many are tried */
     unsigned left;   /* frames that it leaves in the link to the device */
 } calls[] = {
     {"hop", {(function *)pil_hop, (function *)model_hop}, HOPPER, PIL_FRAMES, 0},
     {"drain", {(function *)pil_drain, (function *)model_drain}, UINT64_MAX, PIL_FRAMES, 0},
+    {"walk", {(function *)pil_walk, (function *)model_walk}, 0, PIL_FRAMES, 1},
     {"hop refused with 3", {(function *)pil_hop, (function *)model_hop}, LOOP_DEVICES, 1, 1},
     {"save", {(function *)pil_save, (function *)model_save}, (uintptr_t)output, 1, 1},
     {"open", {(function *)pil_open, (function *)model_open}, (uintptr_t)save, 1, 1},
     {"open an old save", {(function *)pil_open, (function *)model_open}, (uintptr_t)old_save, 1, 1},
 };
 
-enum { HOP, DRAIN, HOP_REFUSED, SAVE, OPEN, OPEN_OLD, CALLS = sizeof calls / sizeof *calls };
+enum { HOP, DRAIN, WALK, HOP_REFUSED, SAVE, OPEN, OPEN_OLD, CALLS = sizeof calls / sizeof *calls };
 
 /* The most that a call took or copied, and where it first did. */
 struct most {
@@ -64,22 +66,32 @@ static struct most deepest[CALLS][2], copied[CALLS][2];
 
 /* One call on the painted stack. */
 
-/* Calls of(area, length, number, save's length) with the stack pointer at the stack's end: all that is written below
+/* Calls of(area, length, number, fourth, fifth) with the stack pointer at the stack's end: all that is written below
    it, the return address first, is the call's. The painted stack is not the one in use, so nothing else lives there. */
-__attribute__((noinline)) static void call_on_stack(function *of, uint64_t number)
+__attribute__((noinline)) static void call_on_stack(function *of, size_t length, uint64_t number, uint64_t fourth,
+                                                    uint64_t fifth)
 {
     uint8_t *first = area;
-    size_t length = sizeof area, save_len = sizeof save;
+    register uint64_t r8 __asm__("r8") = fifth;
 
     __asm__ volatile("mov %%rsp, %%rbx\n\t"
                      "mov %[end], %%rsp\n\t"
                      "call *%[of]\n\t"
                      "mov %%rbx, %%rsp"
-                     : "+D"(first), "+S"(length), "+d"(number), "+c"(save_len)
+                     : "+D"(first), "+S"(length), "+d"(number), "+c"(fourth), "+r"(r8)
                      : [end] "r"(stack + DEEP), [of] "r"(of)
-                     : "rax", "rbx", "r8", "r9", "r10", "r11", "cc", "memory", "xmm0", "xmm1", "xmm2", "xmm3",
+                     : "rax", "rbx", "r9", "r10", "r11", "cc", "memory", "xmm0", "xmm1", "xmm2", "xmm3",
                        "xmm4", "xmm5", "xmm6", "xmm7", "xmm8", "xmm9", "xmm10", "xmm11", "xmm12", "xmm13", "xmm14",
                        "xmm15");
+}
+
+/* A walk is lent the first part of the area, and where to tell; the others that take a fourth take a save's length. */
+static void make_call(unsigned which, int side, unsigned frame)
+{
+    if (which == WALK)
+        call_on_stack(calls[which].of[side], PIL_RECORDS_LENGTH(LOOP_DEVICES), frame, (uintptr_t)told, sizeof told);
+    else
+        call_on_stack(calls[which].of[side], sizeof area, calls[which].number, sizeof save, 0);
 }
 
 /* Bytes from the deepest one touched to the stack's end. */
@@ -124,7 +136,7 @@ static void must(int holds, const char *what, unsigned which, unsigned frame)
     exit(1);
 }
 
-/* What is lent before the call. An opening and a saving write over zeros, so that it shows. */
+/* What is lent before the call. An opening and a saving write over zeros, a walk tells over paint, so that it shows. */
 static void lend(unsigned which)
 {
     memcpy(area, ready, sizeof area);
@@ -132,11 +144,24 @@ static void lend(unsigned which)
         memset(area, 0, sizeof area);
     if (which == SAVE)
         memset(output, 0, sizeof output);
+    if (which == WALK)
+        memset(told, PAINT, sizeof told);
+}
+
+/* All of it is written: paint is neither a yes nor a no, nor an end bit, nor an event. */
+static int all_told(void)
+{
+    for (unsigned i = 0; i < LOOP_DEVICES; i++)
+        if (told[PIL_TOLD_AT(i) + PIL_TOLD_HANDED] > 1 || told[PIL_TOLD_AT(i) + PIL_TOLD_END] > 1
+            || told[PIL_TOLD_AT(i) + PIL_TOLD_EVENT] > PIL_EVENT_TRIGGER)
+            return 0;
+    return 1;
 }
 
 static int done(unsigned which)
 {
     return area[PIL_LINK_AT(LOOP_DEVICES, HOPPER) + PIL_LINK_COUNT] == calls[which].left
+        && (which != WALK || all_told())
         && (which != SAVE || memcmp(output, save, sizeof save) == 0)
         && (which != OPEN || memcmp(area, ready, sizeof area) == 0)
         && (which != OPEN_OLD || memcmp(area, upgraded, sizeof area) == 0);
@@ -154,7 +179,7 @@ static void measure(unsigned which, int side, unsigned frame)
     unsigned depth;
 
     lend(which);
-    call_on_stack(calls[which].of[side], calls[which].number);
+    make_call(which, side, frame);
     depth = touched();
     must(depth < DEEP, "deeper than the painted stack", which, frame);
     must(done(which), "not done as it must be", which, frame);
@@ -320,8 +345,8 @@ int main(int argc, char **argv)
 {
     int well = 1;
 
-    if (argc != 1 && argc != 3) {
-        fprintf(stderr, "use: stack [HOP DRAIN]\n");
+    if (argc != 1 && argc != 4) {
+        fprintf(stderr, "use: stack [HOP DRAIN WALK]\n");
         return 3;
     }
     idle_loop(ready);
@@ -332,7 +357,7 @@ int main(int argc, char **argv)
     print_deepest();
     for (unsigned which = 0; which < CALLS; which++)
         well &= no_copy(which);
-    if (argc == 3)
-        well &= within(HOP, argv[1]) & within(DRAIN, argv[2]);
+    if (argc == 4)
+        well &= within(HOP, argv[1]) & within(DRAIN, argv[2]) & within(WALK, argv[3]);
     return well ? 0 : 1;
 }

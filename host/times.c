@@ -1,5 +1,5 @@
-/* Measures libpil against the model, the same work in one run: alternating runs, the median of each side, and the
-   ratio libpil to model. Use: times [lister model-lister text], where both listers are commands that read the text. */
+/* Measures libpil against the model, and its walk against its put, hops and take, the same work in one run: alternating
+   runs, the median of each side, and the ratio. Use: times [lister model-lister text], the listers being commands. */
 #define _POSIX_C_SOURCE 200809L
 #include "both.h"
 #include "loops.h"
@@ -18,7 +18,7 @@ enum {
     LISTER_RUNS = 11
 };
 
-static uint8_t areas[AREAS][LOOP_LENGTH], ready[LOOP_LENGTH], save[LOOP_SAVE_LENGTH];
+static uint8_t areas[AREAS][LOOP_LENGTH], ready[LOOP_LENGTH], save[LOOP_SAVE_LENGTH], told[PIL_TOLD_LENGTH(N)];
 static const size_t area_len = LOOP_LENGTH;
 
 static double now(void)
@@ -98,12 +98,76 @@ static unsigned long opening(const struct calls *of, uint8_t *area)
     return of->open(area, area_len, save, sizeof save) == PIL_ACCEPTED;
 }
 
+/* The frame out and what is told of the last device. */
+static unsigned long walk(const struct calls *of, uint8_t *area, unsigned frame)
+{
+    unsigned out = of->walk(area, PIL_RECORDS_LENGTH(N), frame, told, sizeof told).frame;
+
+    return out + told[PIL_TOLD_AT(N - 1) + PIL_TOLD_BYTE] + told[PIL_TOLD_AT(N - 1) + PIL_TOLD_EVENT];
+}
+
+static unsigned long walk_of_byte(const struct calls *of, uint8_t *area)
+{
+    return walk(of, area, 0x041);
+}
+
+static unsigned long walk_of_nul(const struct calls *of, uint8_t *area)
+{
+    return walk(of, area, NUL);
+}
+
+static unsigned long walk_of_tad(const struct calls *of, uint8_t *area)
+{
+    return walk(of, area, 0x445);
+}
+
+static unsigned long walk_of_idy(const struct calls *of, uint8_t *area)
+{
+    return walk(of, area, 0x600);
+}
+
+static unsigned long walk_of_aad(const struct calls *of, uint8_t *area)
+{
+    return walk(of, area, 0x580);
+}
+
+static unsigned long walk_of_own_byte(const struct calls *of, uint8_t *area)
+{
+    return walk(of, area, LOOP_OWN_BYTE);
+}
+
+/* What a walk is to be the same as (02, l), on a whole area with empty links. */
+static struct pil_walked put_hops_take(uint8_t *area, size_t records_len, uint64_t frame, uint8_t *to, size_t to_len)
+{
+    (void)records_len;
+    pil_put(area, area_len, frame);
+    for (unsigned i = 0; PIL_TOLD_AT(i) < to_len; i++) {
+        struct pil_hopped hopped = pil_hop(area, area_len, i);
+
+        to[PIL_TOLD_AT(i) + PIL_TOLD_HANDED] = hopped.handed;
+        to[PIL_TOLD_AT(i) + PIL_TOLD_BYTE] = hopped.byte;
+        to[PIL_TOLD_AT(i) + PIL_TOLD_END] = hopped.end;
+        to[PIL_TOLD_AT(i) + PIL_TOLD_EVENT] = hopped.event;
+    }
+    return (struct pil_walked){.frame = pil_take(area, area_len).frame};
+}
+
+/* Both of libpil. */
+static const struct calls ways[2] = {{.name = "walk", .walk = pil_walk}, {.name = "hops", .walk = put_hops_take}};
+
 static const struct work {
     const char *name;
     void (*make_ready)(uint8_t *);
     unsigned units; /* what the work on one area counts as */
     unsigned long (*on)(const struct calls *, uint8_t *);
-} works[] = {
+} walks[] = {
+    {"walk of a data byte past listeners", listening_loop, 1, walk_of_byte},
+    {"walk of a NUL", idle_loop, 1, walk_of_nul},
+    {"walk of a TAD", idle_loop, 1, walk_of_tad},
+    {"walk of an IDY, every device polled", polled_loop_to_walk, 1, walk_of_idy},
+    {"walk of an AAD, taken by every device", idle_loop, 1, walk_of_aad},
+    {"busy loop: walk of a data byte", busy_loop_to_walk, 1, walk_of_own_byte},
+}, works[] = {
     {"hop of one device, a frame in each link", nul_in_each_link, N, hops},
     {"drain of a full loop, four hops a device", links_full_of_nuls, 1, drain},
     {"round trip: put, drain, take", idle_loop, 1, round_trip},
@@ -119,7 +183,7 @@ static const struct work {
 };
 
 /* One run of one side: nanoseconds a unit. The areas are made anew first, outside the time taken. */
-static double run(const struct work *w, int side, unsigned long *sum)
+static double run(const struct work *w, const struct calls *of, unsigned long *sum)
 {
     double start;
 
@@ -128,7 +192,7 @@ static double run(const struct work *w, int side, unsigned long *sum)
     *sum = 0;
     start = now();
     for (unsigned i = 0; i < AREAS; i++)
-        *sum += w->on(&both[side], areas[i]);
+        *sum += w->on(of, areas[i]);
     return (now() - start) / (AREAS * w->units);
 }
 
@@ -145,12 +209,13 @@ static double median(double *times, unsigned count)
     return times[count / 2];
 }
 
-static void print_ratio(const char *name, double pil, double model, const char *unit)
+static void print_ratio(const char *name, double first, double second, const char *unit)
 {
-    printf("%-48s %10.1f %10.1f %s  ratio %.2f\n", name, pil, model, unit, pil / model);
+    printf("%-48s %10.1f %10.1f %s  ratio %.2f\n", name, first, second, unit, first / second);
 }
 
-static int measure(const struct work *w)
+/* The first of the two sides against the second. */
+static int measure(const struct work *w, const struct calls sides[2])
 {
     static double times[2][RUNS];
     unsigned long sums[2];
@@ -158,15 +223,15 @@ static int measure(const struct work *w)
     w->make_ready(ready);
     for (unsigned i = 0; i < RUNS; i++)
         for (unsigned turn = 0; turn < 2; turn++) {
-            int side = (i + turn) % 2 ? MODEL : PIL;
+            int side = (i + turn) % 2;
 
-            times[side][i] = run(w, side, &sums[side]);
+            times[side][i] = run(w, &sides[side], &sums[side]);
         }
-    if (sums[PIL] != sums[MODEL] || sums[PIL] == 0) {
+    if (sums[0] != sums[1] || sums[0] == 0) {
         printf("%s: the answers differ or are refusals\n", w->name);
         return 0;
     }
-    print_ratio(w->name, median(times[PIL], RUNS), median(times[MODEL], RUNS), "ns");
+    print_ratio(w->name, median(times[0], RUNS), median(times[1], RUNS), "ns");
     return 1;
 }
 
@@ -208,8 +273,13 @@ int main(int argc, char **argv)
 #endif
     printf("%-48s %10s %10s\n", "", "libpil", "model");
     for (unsigned i = 0; i < sizeof works / sizeof *works; i++)
-        well &= measure(&works[i]);
+        well &= measure(&works[i], both);
+    for (unsigned i = 0; i < sizeof walks / sizeof *walks; i++)
+        well &= measure(&walks[i], both);
     if (argc == 4)
         well &= measure_listers(argv + 1, argv[3]);
+    printf("%-48s %10s %10s\n", "libpil's walk against its put, hops and take", ways[0].name, ways[1].name);
+    for (unsigned i = 0; i < sizeof walks / sizeof *walks; i++)
+        well &= measure(&walks[i], ways);
     return well ? 0 : 1;
 }

@@ -30,17 +30,19 @@ use Rattle.calls.specs.SetUp.{devicesFor, isItems, itemWidth, itemsOf, itemsFit
 use Rattle.saved.specs.Saved.{saved, savedSize, savedCount, savedDevices, formed, contents}
 use Rattle.saved.specs.Older.{old, zeroChoiceIn, opened, soundSave}
 use Rattle.saved.specs.Calls.{saveOf, saveWith, openWith}
+use Rattle.walk.specs.Walk.{refusalWith, stays, walks, walkWith}
 use Rattle.demands.specs.Calls.{Byte, numbers, Local, load, status, wish, key, pollStatus, calledBy, localBy}
 use Rattle.demands.specs.Calls.{Action, put, hop, take, local, drain, owes, save, Call, onArea, setUp, opens}
 use Rattle.demands.specs.Calls.{onFrame, decode, encode, pollCount, Answer, plain, hopped, taken, drained, owing}
-use Rattle.demands.specs.Calls.{saving, decoded, encoded, polled, told, pil, refusalIn, bare, acts}
+use Rattle.demands.specs.Calls.{saving, decoded, encoded, polled, walk, told, pil, refusalIn, bare, acts}
 use Rattle.demands.specs.Conditions.{devicesAt, oldWithChoice, badC1, BadFrame, due}
 use Rattle.demands.specs.Demands.{Demand1}
 use Rattle.demands.proofs.Away.{whole}
 use Rattle.demands.proofs.Lengths.{found-at, at-is, shape-is, for-is}
-use Rattle.demands.proofs.Refusals.{yes, Met, call-met, leb-turned, turned-lt}
+use Rattle.demands.proofs.Refusals.{yes, Met, call-met, leb-turned, turned-lt, either-turned}
 use Rattle.demands.proofs.Tests.{size-is, put-told, take-told, hop-told, local-told, load-told}
 use Rattle.demands.proofs.Tests.{status-refusal, wish-refusal, poll-status-refusal, drain-told}
+use Rattle.demands.proofs.Walks.{asAfter, refusal-due}
 
 -- a call held to a refusal, as demand 1 has it
 record Held (c : Call) (a : List ℕ) (o : After Answer) (k : ℕ) : Type 0 where
@@ -283,10 +285,6 @@ c1-turned k c = go c (hasC1 k) refl
     go (suc (suc (suc c))) false e =
         rw (e, lt-ltb 1 (suc (suc (suc c))) (omega arith), le-ltb (suc (suc (suc c))) 1 (omega arith))
 
-either-turned : (s t : Bool) → (not s || not t) ≡ not (s && t)
-either-turned true t = refl
-either-turned false t = refl
-
 -- the encoder's row of the table is that they are not in the list
 pub outside : (k o c : ℕ) → BadFrame (onFrame (encode k o c)) ≡ not (inList (message k o c))
 outside k o c =
@@ -337,6 +335,17 @@ count-held f a = rw (no-idy f, count-is f) (go (eqb (kindAt f) idy))
     go true = record { refused = refl; unchanged = λ z. absurd (z refl) }
     go false = record { refused = refl; unchanged = λ z. (refl, refl) }
 
+-- ---- the walk
+
+walk-held : (f : ℕ) (t : List Byte) (a : List ℕ) → Held (walk f t) a (pil (walk f t) a) (due (walk f t) a)
+unfolding walkWith
+walk-held f t a = rw (← refusal-due f t a) (go (refusalWith mostDevices a f (numbers t)) _ refl)
+  where
+    go : (k : ℕ) (z : Bool) → eqb k 0 ≡ z →
+        Held (walk f t) a (asAfter (cond z (walks a f) (stays k a (numbers t)))) k
+    go k true e = let n : k ≡ 0 = eqb-true _ _ e in rw n (record { refused = refl; unchanged = λ z. absurd (z refl) })
+    go k false e = record { refused = refl; unchanged = λ z. (refl, refl) }
+
 call-held : (c : Call) (a : List ℕ) → Held c a (pil c a) (due c a)
 call-held (onArea c) a = action-held a c
 call-held (setUp items) a = set-up-held a items
@@ -344,6 +353,7 @@ call-held (opens s) a = opens-held s a
 call-held (onFrame (decode f)) a = decode-held f a
 call-held (onFrame (encode k o c)) a = encode-held k o c a
 call-held (onFrame (pollCount f)) a = count-held f a
+call-held (walk f t) a = walk-held f t a
 
 pub demand-1 : Demand1
 demand-1 = record { by-table = λ c a. call-held c a .refused; changes-nothing = λ c a. call-held c a .unchanged }

@@ -3,7 +3,9 @@ pub mod Lengths
 pub mod Refusals
 pub mod Tests
 pub mod Away
+pub mod Walks
 pub mod First
+pub mod Records
 pub mod Bridge
 pub mod ByHops
 pub mod Drains
@@ -13,6 +15,8 @@ pub mod Second
 pub mod Rendered
 pub mod Lined
 pub mod Third
+pub mod Alone
+pub mod Witness
 pub mod Polled
 pub mod Extended
 pub mod Owing

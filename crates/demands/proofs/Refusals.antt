@@ -2,7 +2,7 @@
 -- that holds.
 use Prim.Native.Nat.{ℕ, suc}
 use mathlib.Core.Path.{_≡_, refl}
-use mathlib.Core.Bool.{Bool, true, false, not, cond}
+use mathlib.Core.Bool.{Bool, true, false, not, cond, _&&_, _||_}
 use mathlib.Core.List.{List, [], _∷_}
 use native.Mathlib.Omega.{arith}
 use lib.ListN.{length}
@@ -52,6 +52,10 @@ leb-turned m n = go (ltb m n) refl
     go : (t : Bool) → ltb m n ≡ t → leb n m ≡ not t
     go true e = lt-leb n m (ltb-true m n e)
     go false e = le-leb n m (ltb-false m n e)
+
+pub either-turned : (s t : Bool) → (not s || not t) ≡ not (s && t)
+either-turned true t = refl
+either-turned false t = refl
 
 pub turned-lt : (m n x y : ℕ) → cond (leb n m) x y ≡ cond (ltb m n) y x
 turned-lt m n x y = rw (leb-turned m n) (go (ltb m n))

@@ -2,7 +2,7 @@
 -- answers.
 use Prim.Native.Nat.{ℕ, zero, suc, _+_, _<_}
 use mathlib.Core.Path.{_≡_, refl, sym, ap, _∙_}
-use mathlib.Core.Bool.{Bool, true, false}
+use mathlib.Core.Bool.{Bool, true, false, cond}
 use mathlib.Core.List.{List, [], _∷_, _++_}
 use native.Mathlib.Omega.{arith}
 use lib.Dec.{ltb}
@@ -27,8 +27,8 @@ use Rattle.order.proofs.Turns.{calls-each}
 use Rattle.demands.specs.Calls.{Byte, numbers, Local, load, status, wish, key, pollStatus, localBy, Action, put}
 use Rattle.demands.specs.Calls.{hop, take, local, drain, owes, save, Answer, plain, hopped, taken, drained}
 use Rattle.demands.specs.Histories.{Step, call, away, putAway, stepped, history, if, putBy, takenBy, handedBy}
-use Rattle.demands.specs.Histories.{hopsBy, ofCall, each, total, areaLeft, framesPut, framesTaken, allHanded}
-use Rattle.demands.specs.Histories.{hopsMade, papers, calls, stepCalls, allCalls}
+use Rattle.demands.specs.Histories.{hopsBy, refusedBy, ofCall, each, total, areaLeft, framesPut, framesTaken}
+use Rattle.demands.specs.Histories.{allHanded, hopsMade, stepsRefused, papers, calls, stepCalls, allCalls}
 use Rattle.demands.specs.Histories.{lineOf, turnsOf, callSeen, turnSeen, Drainless, turnsSeen, callsSeen, action}
 use Rattle.demands.proofs.Away.{away-stays}
 use Rattle.demands.proofs.Bridge.{toLoop}
@@ -153,6 +153,22 @@ same-total g [] rs = refl
 same-total g (c ∷ cs) [] = refl
 same-total g (c ∷ cs) (r ∷ rs) = rw (same-total g cs rs)
 
+-- a step that is a call which the line refuses where the area does
+abbrev pub Fair : Step → Type 0
+Fair (call c) = fair c ≡ true
+Fair (away out lent) = ⊥
+
+-- what is refused of a call that the line has
+abbrev refusedFair : Action → Answer → ℕ
+refusedFair c r = cond (fair c) (refusedBy (call c) r) 0
+
+fair-total : (ss : List Step) (rs : List Answer) → Every Fair ss →
+    total refusedBy ss rs ≡ total (ofCall 0 refusedFair) ss rs
+fair-total [] rs u = refl
+fair-total (s ∷ ss) [] u = refl
+fair-total (call c ∷ ss) (r ∷ rs) u = rw (u .0, fair-total ss rs (u .1))
+fair-total (away out lent ∷ ss) (r ∷ rs) u = absurd (u .0)
+
 -- what holds of every call holds of every one of some
 every : {A : Type 0} {P : A → Type 0} → ((x : A) → P x) → (xs : List A) → Every P xs
 every h [] = tt
@@ -177,7 +193,7 @@ module _ (l : line.Loop papers) (good : Sound-loop (toLoop l)) where
     pub good-is : Sound-loop (toLoop ((line.run l (callsOf R ss)) .0))
     good-is = (through R l ss good) .1
 
-    read-those : {A : Type 0} (g : Step → Answer → List A) (e : line.Event papers → List A) →
+    pub read-those : {A : Type 0} (g : Step → Answer → List A) (e : line.Event papers → List A) →
         Every (Tells R g e) ss →
         each g ss ((history (areaOf (toLoop l)) ss) .1) ≡ told.each e ((line.run l (callsOf R ss)) .1)
     read-those {A} g e h = rw (same-history (areaOf (toLoop l)) ss) (same-each g ss _ ∙ read-each R A g e ss h l good)
@@ -192,7 +208,7 @@ module _ (l : line.Loop papers) (good : Sound-loop (toLoop l)) where
         tells (call c) m u = h m c
         tells (away out lent) m u = refl
 
-    pub count : (g : Action → Answer → ℕ) (e : line.Event papers → ℕ) →
+    count : (g : Action → Answer → ℕ) (e : line.Event papers → ℕ) →
         ((m : line.Loop papers) (c : Action) →
         g c ((onLoop c (toLoop m)) .1) ≡ told.total e ((line.run m (calls c)) .1)) →
         total (ofCall 0 g) ss ((history (areaOf (toLoop l)) ss) .1) ≡ told.total e ((line.run l (callsOf R ss)) .1)
@@ -215,6 +231,12 @@ module _ (l : line.Loop papers) (good : Sound-loop (toLoop l)) where
 
     pub hops-are : hopsMade (areaOf (toLoop l)) ss ≡ told.hopsMade ((line.run l (callsOf R ss)) .1)
     hops-are = count hopsBy (λ e. told.hopBy e) (λ m c. follows c m .reads .hops)
+
+    pub refused-are : Every Fair ss →
+        stepsRefused (areaOf (toLoop l)) ss ≡ told.refusals ((line.run l (callsOf R ss)) .1)
+    refused-are u =
+        fair-total ss ((history (areaOf (toLoop l)) ss) .1) u
+        ∙ count refusedFair (λ e. told.refusalBy e) (λ m c. follows c m .reads .refused)
 
     pub turns-are : (i : ℕ) → turnsOf (areaOf (toLoop l)) ss i ≡ told.turns ((line.run l (callsOf R ss)) .1) i
     turns-are i = rw (line-is, same-calls ss)

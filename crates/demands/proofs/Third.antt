@@ -2,7 +2,6 @@
 -- matter, and the line's history in turn can be made by calls on the area. A set-up leaves the area of an idle line.
 use Prim.Native.Nat.{ℕ, zero, suc, _+_, _*_, _<_}
 use mathlib.Core.Path.{_≡_, refl, sym, ap, _∙_}
-use mathlib.Core.Bool.{true, cond}
 use mathlib.Core.List.{List, [], _∷_, map}
 use native.Mathlib.Omega.{arith}
 use lib.ListN.{length, getD, replicate, length-map}
@@ -30,20 +29,19 @@ use Rattle.order.proofs.Idle.{idle-owed, idle-round}
 use Rattle.order.proofs.Order.{from-any-loop, agree}
 use Rattle.order.proofs.Turns.{turns-add-up}
 use Rattle.order.proofs.Written.{run-puts, one-by-one-fair, calls-fair, writes-all}
-use Rattle.demands.specs.Calls.{Byte, numbers, Action, setUp, opens, Answer, plain, pil}
+use Rattle.demands.specs.Calls.{Byte, numbers, setUp, opens, plain, pil}
 use Rattle.demands.specs.Calls as page
 use Rattle.demands.specs.Conditions.{devicesAt, due}
-use Rattle.demands.specs.Histories.{Step, call, away, history, refusedBy, ofCall, total, areaLeft, framesPut}
-use Rattle.demands.specs.Histories.{framesTaken, allHanded, hopsMade, stepsRefused, papers}
-use Rattle.demands.specs.Histories.{allCalls, lineOf, turnsOf, asSteps, inTurn}
+use Rattle.demands.specs.Histories.{Step, areaLeft, framesPut, framesTaken, allHanded, hopsMade, stepsRefused}
+use Rattle.demands.specs.Histories.{papers, allCalls, lineOf, turnsOf, asSteps, inTurn}
 use Rattle.demands.specs.Demands.{Judged, hopsOwed, AllEmpty, InAnyOrder, FreshInAnyOrder, Demand3}
 use Rattle.demands.specs.Demands.{StartsJudged, Turns, TurnsAreSeen, Agreement}
 use Rattle.demands.proofs.Away.{open-leaves, opened-judged, away-done}
 use Rattle.demands.proofs.First.{demand-1, sets-up}
 use Rattle.demands.proofs.Bridge.{toLoop}
-use Rattle.demands.proofs.Settled.{fair, follows}
-use Rattle.demands.proofs.Rendered.{numbers-bytes, R, W, same-calls, line-is, area-is, good-is, count, puts-are}
-use Rattle.demands.proofs.Rendered.{taken-are, handed-are, hops-are, turns-are, turns-seen, calls-seen}
+use Rattle.demands.proofs.Rendered.{numbers-bytes, R, W, same-calls, Fair, line-is, area-is, good-is, puts-are}
+use Rattle.demands.proofs.Rendered.{taken-are, handed-are, hops-are, refused-are, turns-are, turns-seen}
+use Rattle.demands.proofs.Rendered.{calls-seen}
 use Rattle.demands.proofs.Lined.{owed-is, devices-are, line-judged, line-good, line-area}
 
 -- ---- idle lines
@@ -56,41 +54,24 @@ idle-states : (ss : List Device) → flat.statesOf (line.idle {L = papers} ss) �
 idle-states [] = refl
 idle-states (s ∷ ss) = ap (λ (r : List Device). s ∷ r) (idle-states ss)
 
-idle-loop : (ss : List Device) → toLoop (line.idle ss) ≡ record { devices = ss; links = replicate (suc (length ss)) [] }
+pub idle-loop : (ss : List Device) →
+    toLoop (line.idle ss) ≡ record { devices = ss; links = replicate (suc (length ss)) [] }
 idle-loop ss = rw (idle-links ss, idle-states ss)
 
 -- a line all of whose links are empty is idle
-is-idle : (l : line.Loop papers) → ((j : ℕ) → getD (flat.linksOf l) j [] ≡ []) → l ≡ line.idle (flat.statesOf l)
+pub is-idle : (l : line.Loop papers) → ((j : ℕ) → getD (flat.linksOf l) j [] ≡ []) → l ≡ line.idle (flat.statesOf l)
 is-idle (line.tail q) h = ap (λ (r : List ℕ). line.tail r) (h 0)
 is-idle (line.cell q s r) h = rw (h 0) (ap (λ (x : line.Loop papers). line.cell [] s x) (is-idle r (λ j. h (suc j))))
 
 -- ---- in turn, by calls on the area
 
--- a step that is a call which the line refuses where the area does
-Fair : Step → Type 0
-Fair (call c) = fair c ≡ true
-Fair (away out lent) = ⊥
-
 fair-all : (cs : List (line.Call papers)) → Every (FairCall (λ f. f < frames)) cs → Every Fair (asSteps cs)
-unfolding Fair
 fair-all [] u = tt
 fair-all (line.put f ∷ cs) u = (lt-ltb f frames (u .0), fair-all cs (u .1))
 fair-all (line.hop i ∷ cs) u = (refl, fair-all cs (u .1))
 fair-all (line.take ∷ cs) u = (refl, fair-all cs (u .1))
 fair-all (line.local i c ∷ cs) u = (refl, fair-all cs (u .1))
 fair-all (line.drain b ∷ cs) u = (refl, fair-all cs (u .1))
-
--- what is refused of a call that the line has
-abbrev refusedFair : Action → Answer → ℕ
-refusedFair c r = cond (fair c) (refusedBy (call c) r) 0
-
-fair-total : (ss : List Step) (rs : List Answer) → Every Fair ss →
-    total refusedBy ss rs ≡ total (ofCall 0 refusedFair) ss rs
-unfolding Fair
-fair-total [] rs u = refl
-fair-total (s ∷ ss) [] u = refl
-fair-total (call c ∷ ss) (r ∷ rs) u = rw (u .0, fair-total ss rs (u .1))
-fair-total (away out lent ∷ ss) (r ∷ rs) u = absurd (u .0)
 
 -- ---- a history on a line's area that leaves all links empty
 
@@ -165,8 +146,7 @@ module _ (l : line.Loop papers) (good : Sound-loop (toLoop l)) (ss : List Step)
 
   none-refused : stepsRefused x rs ≡ 0
   none-refused =
-      fair-total rs ((history x rs) .1) (fair-all ref ref-fair)
-      ∙ count l good rs refusedFair (λ e. told.refusalBy e) (λ m c. follows c m .reads .refused)
+      refused-are l good rs (fair-all ref ref-fair)
       ∙ ap (λ (e : List (line.Event papers)). told.refusals e) ref-events
       ∙ (same-as .0) .accepted
 

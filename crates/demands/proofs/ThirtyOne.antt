@@ -20,8 +20,9 @@ use Rattle.limits.specs.Limits.{FewIn, Agree}
 use Rattle.limits.proofs.Limits.{limits-agree, more-refused}
 use Rattle.demands.specs.Calls.{numbers, localBy, Action, put, hop, take, local, drain, owes, save, Call}
 use Rattle.demands.specs.Calls.{onArea, setUp, opens, onFrame, plain, hopped, taken, drained, owing}
-use Rattle.demands.specs.Calls.{saving, told, actsWith, pilWith, acts, pil}
+use Rattle.demands.specs.Calls.{saving, walk, told, actsWith, pilWith, acts, pil}
 use Rattle.demands.specs.Demands.{formerMost, FewFor, ThirtyOne}
+use Rattle.demands.proofs.Walks.{walk-alike}
 
 judged : judgeOf (areaOf (blankOf mostDevices)) ≡ 0
 judged = area-sound (blankOf mostDevices) (blank-sound mostDevices (omega arith) (omega arith))
@@ -51,6 +52,7 @@ alike (onArea c) a few = acts-alike c a few
 alike (setUp items) a few = ap (told plain) (agree .set-up a (numbers items) few)
 alike (opens s) a few = ap (told plain) (agree .opening a (numbers s) few)
 alike (onFrame c) a few = refl
+alike (walk f t) a few = walk-alike f t a few
 
 pub thirty-one : ThirtyOne
 thirty-one =

@@ -14,6 +14,7 @@ use Rattle.calls.specs.SetUp.{setUpWith}
 use Rattle.saved.specs.Calls.{saveWith, openWith}
 use Rattle.coding.specs.Coding.{noDecoding, decodeAnswer, noEncoding, encodeAnswer}
 use Rattle.poll_count.specs.Count.{noCount, pollCount as pollAnswer}
+use Rattle.walk.specs.Walk.{noWalk, walkWith}
 use Rattle.calls.specs.declared.HopAnswer.{HopAnswer}
 use Rattle.calls.specs.declared.TakeAnswer.{TakeAnswer}
 use Rattle.calls.specs.declared.DrainAnswer.{DrainAnswer}
@@ -21,6 +22,7 @@ use Rattle.calls.specs.declared.OwedAnswer.{OwedAnswer}
 use Rattle.coding.specs.declared.DecodeAnswer.{DecodeAnswer}
 use Rattle.coding.specs.declared.EncodeAnswer.{EncodeAnswer}
 use Rattle.poll_count.specs.declared.PollAnswer.{PollAnswer}
+use Rattle.walk.specs.declared.WalkAnswer.{WalkAnswer}
 
 -- a byte, as C has it
 pub record Byte : Type 0 where
@@ -78,6 +80,8 @@ pub data Call : Type 0 where
   setUp : List Byte → Call
   opens : (s : List Byte) → Call
   onFrame : Coding → Call
+  -- of a frame past records, which are lent in place of an area (02, l); with the bytes of told before
+  walk : (f : ℕ) → List Byte → Call
 
 -- what a C caller is answered
 pub data Answer : Type 0 where
@@ -91,6 +95,8 @@ pub data Answer : Type 0 where
   decoded : DecodeAnswer → Answer
   encoded : EncodeAnswer → Answer
   polled : PollAnswer → Answer
+  -- with told afterwards
+  walked : WalkAnswer → List ℕ → Answer
 
 -- an answer of one type as any answer
 abbrev pub told : {A : Type 0} → (A → Answer) → After A → After Answer
@@ -120,6 +126,7 @@ pilWith limit (onArea c) a = actsWith limit c a
 pilWith limit (setUp items) a = told plain (setUpWith limit a (numbers items))
 pilWith limit (opens s) a = told plain (openWith limit a (numbers s))
 pilWith limit (onFrame c) a = after (codes c) a
+pilWith limit (walk f t) a = let w = walkWith limit a f (numbers t) in after (walked (w .answer) (w .told)) (w .records)
 
 -- both by the limit that holds
 abbrev pub acts : Action → List ℕ → After Answer
@@ -139,8 +146,9 @@ refusalIn (saving k out) = k
 refusalIn (decoded r) = r .refusal
 refusalIn (encoded r) = r .refusal
 refusalIn (polled r) = r .refusal
+refusalIn (walked r t) = r .refusal
 
--- the answer of a refusal: its number and otherwise zeros, and an output as it was
+-- the answer of a refusal: its number and otherwise zeros, and an output or told as it was
 abbrev pub bareAction : Action → ℕ → Answer
 bareAction (put f) k = plain k
 bareAction (hop i) k = hopped (noHop k)
@@ -160,3 +168,4 @@ bare (onArea c) k = bareAction c k
 bare (setUp items) k = plain k
 bare (opens s) k = plain k
 bare (onFrame c) k = bareCoding c k
+bare (walk f t) k = walked (noWalk k) (numbers t)

@@ -1,7 +1,8 @@
 -- The conditions of 01's refusal table, each a test of a call and an area, written from the table row by row, with what
 -- 02 adds: g to the fourth, a to the first two and a tenth, d (by what is sound) and h to the second, h to the tenth;
--- f to the first, the second (by what is sound and what is allowed), the fourth and the seventh; i to the first two.
-use Prim.Native.Nat.{ℕ, zero, suc, _*_}
+-- f to the first, the second (by what is sound and what is allowed), the fourth and the seventh; i to the first two; l
+-- to the first two and the fourth.
+use Prim.Native.Nat.{ℕ, zero, suc, _-_, _*_}
 use mathlib.Core.List.{List, [], _∷_}
 use mathlib.Core.Bool.{Bool, false, not, cond, _&&_, _||_}
 use lib.ListN.{length, getD}
@@ -11,23 +12,30 @@ use Rattle.frame.specs.Decoding.{idy, hasC1, offsetsOf}
 use Rattle.device.specs.Device.{sendData, status as sendStatus, serviceRequest, parallelPoll, sendingData, mostData}
 use Rattle.device.specs.Device.{has, hasFurther}
 use Rattle.device.specs.Change.{choice}
+use Rattle.device.specs.PowerOn.{bytesFrom}
 use Rattle.device.specs.declared.Device.{Device}
-use Rattle.record.specs.Sound.{allowed}
-use Rattle.area.specs.Sizes.{depth, mostDevices, itemSize, pollItemSize, longItemSize, areaSize}
+use Rattle.record.specs.Record.{zeros}
+use Rattle.record.specs.Sound.{allowed, soundRecord}
+use Rattle.area.specs.Sizes.{headerSize, depth, mostDevices, itemSize, pollItemSize, longItemSize, recordAt, areaSize}
 use Rattle.area.specs.Parts.{parts, all}
-use Rattle.area.specs.Loop.{countIn, loopOf, sound, device, link}
+use Rattle.area.specs.Loop.{countIn, recordsIn, loopOf, sound, device, link}
 use Rattle.saved.specs.Saved.{body, savedSize, savedCount, edition, savedDevices, formed, contents}
+use Rattle.walk.specs.Walk.{toldSize}
 use Rattle.demands.specs.Calls.{Byte, numbers, Local, load, status, wish, key, pollStatus, Action, put, hop}
 use Rattle.demands.specs.Calls.{take, local, drain, owes, save, decode, encode, pollCount, Call, onArea, setUp}
-use Rattle.demands.specs.Calls.{opens, onFrame}
+use Rattle.demands.specs.Calls.{opens, onFrame, walk}
 
--- the number of devices, n at most, whose area has this length; 0 if there is none
-abbrev pub devicesUpTo : ℕ → ℕ → ℕ
-devicesUpTo zero size = 0
-devicesUpTo (suc n) size = cond (eqb size (areaSize (suc n))) (suc n) (devicesUpTo n size)
+-- the number of devices, n at most, whose bytes are so many; 0 if there is none
+abbrev pub devicesUpTo : (ℕ → ℕ) → ℕ → ℕ → ℕ
+devicesUpTo bytes zero size = 0
+devicesUpTo bytes (suc n) size = cond (eqb size (bytes (suc n))) (suc n) (devicesUpTo bytes n size)
 
+-- that of an area's length, and of the length of header and records
 abbrev pub devicesAt : ℕ → ℕ
-devicesAt size = devicesUpTo mostDevices size
+devicesAt size = devicesUpTo areaSize mostDevices size
+
+abbrev pub devicesWalked : ℕ → ℕ
+devicesWalked size = devicesUpTo recordAt mostDevices size
 
 -- the output of a save isn't exactly of the saved length
 abbrev pub badOutput : Action → List ℕ → Bool
@@ -52,14 +60,22 @@ itemLength bytes n =
 abbrev pub itemsIn : ℕ → List ℕ → List (List ℕ)
 itemsIn n items = parts (itemLength (length items) n) n items
 
+-- a walk's length is bad: told's isn't 4 bytes a device, or the records' isn't 8 + 64n for an n from 1 to mostDevices,
+-- or not byte 0's
+abbrev pub badWalk : (records told : List ℕ) → Bool
+badWalk records told =
+    not (eqb (length told) (toldSize * countIn records)) ||
+    (eqb (devicesWalked (length records)) 0 || not (eqb (length records) (recordAt (countIn records))))
+
 -- 1, Shape: the area's length isn't a loop's, or not byte 0's, or a save's output is wrong; at set up the items' length
--- isn't 12n, 13n or 14n, n being by the area's length; at an opening the area's length isn't the saved loop's
+-- isn't 12n, 13n or 14n, n by the area's; at an opening the area's isn't the saved loop's; at a walk a length is bad
 abbrev pub Shape : Call → List ℕ → Bool
 Shape (onArea c) a =
     badOutput c a || (eqb (devicesAt (length a)) 0 || not (eqb (length a) (areaSize (countIn a))))
 Shape (setUp items) a = eqb (devicesAt (length a)) 0 || badItems (length (numbers items)) (devicesAt (length a))
 Shape (opens s) a = not (eqb (length a) (areaSize (savedCount (numbers s))))
 Shape (onFrame c) a = false
+Shape (walk f t) a = badWalk a (numbers t)
 
 -- a load's condition, and no other local call's
 abbrev pub ofLoad : (List Byte → ℕ → Bool) → Local → Bool
@@ -84,12 +100,13 @@ abbrev pub oldWithChoice : List ℕ → Bool
 oldWithChoice s = eqb (edition s) 0 && not (all (λ r. eqb (getD (body r) choice 0) 0) (savedDevices s))
 
 -- 2, Unsound: the contents aren't sound, or a load's choice isn't one; at set up an item isn't allowed, at an opening
--- what was saved isn't sound, and the contents aren't looked at
+-- what was saved isn't sound, and the contents aren't looked at; at a walk the header or a record isn't sound
 abbrev pub Unsound : Call → List ℕ → Bool
 Unsound (onArea c) a = noChoice c || not (sound a)
 Unsound (setUp items) a = not (all allowed (itemsIn (devicesAt (length a)) (numbers items)))
 Unsound (opens s) a = not (sound (contents (numbers s))) || oldWithChoice (numbers s)
 Unsound (onFrame c) a = false
+Unsound (walk f t) a = not (zeros (bytesFrom 1 (headerSize - 1) a)) || not (all soundRecord (recordsIn a))
 
 -- 3, NoDevice: the device number is n or more
 abbrev pub NoDevice : Action → List ℕ → Bool
@@ -105,8 +122,8 @@ NoDevice (save out) a = false
 abbrev pub badC1 : ℕ → ℕ → Bool
 badC1 k c = ltb 1 c || (eqb c 1 && not (hasC1 k))
 
--- 4, BadFrame: a frame over 2,047 at put or decoder; at the encoder a kind or an offset outside the list, or such a C1;
--- at the count of a poll anything but an IDY, 600 to 7ff
+-- 4, BadFrame: a frame over 2,047 at put, walk or decoder; at the encoder a kind or an offset outside the list, or such
+-- a C1; at the count of a poll anything but an IDY, 600 to 7ff
 abbrev pub BadFrame : Call → Bool
 BadFrame (onArea (put f)) = leb frames f
 BadFrame (onArea (hop i)) = false
@@ -120,6 +137,7 @@ BadFrame (opens s) = false
 BadFrame (onFrame (decode f)) = leb frames f
 BadFrame (onFrame (encode k o c)) = leb (offsetsOf k) o || badC1 k c
 BadFrame (onFrame (pollCount f)) = ltb f (firstOf idy) || leb frames f
+BadFrame (walk f t) = leb frames f
 
 -- link j holds no frame; it holds four
 abbrev pub holdsNone : ℕ → List ℕ → Bool
@@ -194,6 +212,7 @@ BadSave (onArea c) = false
 BadSave (setUp items) = false
 BadSave (opens s) = not (formed mostDevices (numbers s))
 BadSave (onFrame c) = false
+BadSave (walk f t) = false
 
 -- an action's condition, and no other call's
 abbrev pub ofAction : (Action → List ℕ → Bool) → Call → List ℕ → Bool
@@ -201,6 +220,7 @@ ofAction test (onArea c) a = test c a
 ofAction test (setUp items) a = false
 ofAction test (opens s) a = false
 ofAction test (onFrame c) a = false
+ofAction test (walk f t) a = false
 
 -- a row of the table: a refusal's number, and whether its condition holds
 pub record Row : Type 0 where

@@ -1,17 +1,17 @@
 -- The three demands on the model, and what 02 asks of the hops owed (k), of saved loops (a), of the limit on devices
--- (j), of END by choice (h), of clear, trigger, remote and local (d), of parallel poll (f) and of extended addresses
--- (i), over the very definitions that the contracts of the exported functions cite.
+-- (j), of END by choice (h), of clear, trigger, remote and local (d), of parallel poll (f), of extended addresses (i)
+-- and of a plain engine (l), over the very definitions that the contracts of the exported functions cite.
 -- It leans on Calls, Conditions, Drains, Histories (the crate teeth says what it shuts out); frame's Messages,
 -- Classes, Decoding, Coding, Laws, Bits; coding's Coding; poll_count's Count; device's Sent, Sentences, RemoteTable,
 -- PollSentences, PollTable, ExtendedSentences, ExtendedTable, and Take with the rules that it names; record_local's
 -- Local; record's Record, Parts, Sound, Fits, Laws; area's Sizes, Parts, Link, Loop, Lookup; calls' Outcome, Calls,
--- Drain, SetUp, Owed; saved's Saved, Older, Calls, Laws; limits' Limits; order's Line, Flat, History, RightRound,
--- Through, Owed, which have names of their own.
-use Prim.Native.Nat.{ℕ, suc, _+_, _*_, _≤_, _<_}
+-- Drain, SetUp, Owed; saved's Saved, Older, Calls, Laws; walk's Walk; limits' Limits; order's Line, Flat, History,
+-- RightRound, Through, Owed, which have names of their own.
+use Prim.Native.Nat.{ℕ, zero, suc, _+_, _*_, _≤_, _<_}
 use mathlib.Core.Path.{_≡_}
 use mathlib.Core.List.{List, [], _∷_, _++_, map, tail}
 use lib.Bits.{bitOr}
-use lib.ListN.{length}
+use lib.ListN.{length, getD, take as first}
 use Rattle.frame.specs.Messages.{frames}
 use Rattle.frame.specs.Classes.{IsIdentify}
 use Rattle.frame.specs.Decoding.{message, decoded as decoding, frameOf}
@@ -32,7 +32,8 @@ use Rattle.record.specs.Record.{recordOf}
 use Rattle.record.specs.Laws.{AnyRemote, AnyPoll, NoPoll, Variants, AnyHalf}
 use Rattle.record.specs.Parts.{splice}
 use Rattle.record.specs.Fits.{Bytes}
-use Rattle.area.specs.Sizes.{depth, mostDevices, recordAt, linkAt}
+use Rattle.area.specs.Sizes.{headerSize, depth, mostDevices, recordAt, linkAt, areaSize}
+use Rattle.area.specs.Parts.{join}
 use Rattle.area.specs.Link.{linkOf}
 use Rattle.area.specs.Loop.{countIn, loopOf, areaOf, judgeOf, device, link}
 use Rattle.area.specs.Lookup.{blankOf}
@@ -44,17 +45,19 @@ use Rattle.saved.specs.Older.{opened}
 use Rattle.saved.specs.Laws.{SavedLong, OpenAfterSave, OpenOver, OneForm, OldForm, SaveOpened, SavedOnce, OldOpens}
 use Rattle.limits.specs.Limits.{FewIn, FewItems, FewSaved, Agree, RefusesMore}
 use Rattle.poll_count.specs.Count.{counted}
+use Rattle.walk.specs.Walk.{past, outOf, toldSize, toldOf, devicesIn}
 use Rattle.order.specs.History.{Turn, callsIn, hopsIn, sumOver}
 use Rattle.order.specs.RightRound.{before, after as afterTurn}
 use Rattle.order.specs.Through.{Every}
 use Rattle.order.specs.Owed.{owed}
 use Rattle.demands.specs.Calls.{Byte, numbers, Local, calledBy, put, hop, take, local, drain, owes, save, Call}
 use Rattle.demands.specs.Calls.{onArea, setUp, opens, onFrame, decode, encode, pollCount, Answer, plain, hopped}
-use Rattle.demands.specs.Calls.{taken, owing, saving, decoded, encoded, polled, pilWith, pil, refusalIn, bare}
+use Rattle.demands.specs.Calls.{taken, owing, saving, decoded, encoded, polled, walk, walked, pilWith, pil}
+use Rattle.demands.specs.Calls.{refusalIn, bare}
 use Rattle.demands.specs.Conditions.{devicesAt, due}
 use Rattle.demands.specs.Drains.{byHops}
-use Rattle.demands.specs.Histories.{Step, away, stepped, areaLeft, framesPut, framesTaken, allHanded}
-use Rattle.demands.specs.Histories.{hopsBy, hopsMade, stepsRefused, turnsOf}
+use Rattle.demands.specs.Histories.{Step, call, away, stepped, areaLeft, framesPut, framesTaken, allHanded}
+use Rattle.demands.specs.Histories.{allTold, hopsBy, hopsMade, stepsRefused, turnsOf}
 use Rattle.demands.specs.Histories.{papers, Drainless, turnsSeen, callsSeen, inTurn, allRound}
 
 -- ---- Demand 1: every call is refused exactly by the table
@@ -64,7 +67,7 @@ pub record Refuses (model : Call → List ℕ → After Answer) : Type 0 where
   -- the refusal it answers is the first in the table whose condition holds, so the lowest but where a request gives
   -- another order, and 0 where none does, so that the call is done;
   pub by-table : (c : Call) (a : List ℕ) → refusalIn (model c a .answer) ≡ due c a
-  -- where that is not 0, it answers the number and otherwise zeros, and the area and a save's output stay as they were.
+  -- where that is not 0, it answers the number and otherwise zeros, and all that it was lent stays as it was.
   pub changes-nothing : (c : Call) (a : List ℕ) → (due c a ≡ 0 → ⊥) →
       (model c a .answer ≡ bare c (due c a)) × (model c a .area ≡ a)
 
@@ -147,9 +150,16 @@ pub record Obeys (model : Call → List ℕ → After Answer) : Type 0 where
       after (decoded (record { offset = m .offset; refusal = 0; kind = m .kind; c1 = m .c1 })) a
   pub encodes : (k o c : ℕ) (a : List ℕ) → due (onFrame (encode k o c)) a ≡ 0 →
       model (onFrame (encode k o c)) a ≡ after (encoded (record { frame = frameOf (message k o c); refusal = 0 })) a
-  -- the count of a poll, where it is not refused, how many of an IDY's data bits are one, and which is the lowest.
+  -- the count of a poll, where it is not refused, how many of an IDY's data bits are one, and which is the lowest;
   pub counts : (f : ℕ) (a : List ℕ) → due (onFrame (pollCount f)) a ≡ 0 →
       model (onFrame (pollCount f)) a ≡ after (polled (counted (decoding f .offset))) a
+  -- a walk that is not refused answers the frame that comes out past all devices, each given what the one before it
+  -- sent; it tells what each was handed, and leaves the header as it was and the record of each as the rules make it.
+  pub walks-past : (f : ℕ) (t : List Byte) (a : List ℕ) → due (walk f t) a ≡ 0 →
+      let sent = past (devicesIn a) f in
+      model (walk f t) a ≡ after
+      (walked (record { frame = outOf (devicesIn a) f; refusal = 0 }) (join (map (λ s. toldOf (s .handed)) sent)))
+      (first headerSize a ++ join (map (λ s. recordOf (s .device)) sent))
 
 -- That the published table has the decoding's kind at every frame is the contract of `published::kind`.
 pub record Demand2 : Type 0 where
@@ -314,12 +324,13 @@ pub record SavedLoops : Type 0 where
 abbrev pub formerMost : ℕ
 formerMost = 15
 
--- a call with at most so many devices: by its area, by its area or items, or by its save
+-- a call with at most so many devices: by its area, by its area or items, by its save, or by byte 0 of its records
 abbrev pub FewFor : ℕ → Call → List ℕ → Type 0
 FewFor limit (onArea c) a = FewIn limit a
 FewFor limit (setUp items) a = FewItems limit a (numbers items)
 FewFor limit (opens s) a = FewSaved limit (numbers s)
 FewFor limit (onFrame c) a = Unit {0}
+FewFor limit (walk f t) a = countIn a ≤ limit
 
 pub record ThirtyOne : Type 1 where
   -- An area of 31 devices, here of ones that can do nothing, has no refusal, and 2,312 bytes; none is longer.
@@ -451,3 +462,46 @@ pub record ExtendedAddresses : Type 0 where
   -- addresses, 31 among them.
   pub variants : Variants
   pub any-half : AnyHalf
+
+-- ---- A plain engine beside it (02, l): the walk, which knows no links. What it answers and leaves, demand 2 says; its
+-- refusals, demand 1.
+
+-- the first bytes of an area: header and records
+abbrev pub recordsOf : List ℕ → List ℕ
+recordsOf a = first (recordAt (countIn a)) a
+
+-- n devices hop in order, device i first
+abbrev pub hopsFrom : (i n : ℕ) → List Step
+hopsFrom i zero = []
+hopsFrom i (suc n) = call (hop i) ∷ hopsFrom (suc i) n
+
+-- a frame sent right round the loop of an area: put, the hop of each device, take
+abbrev pub sentRound : List ℕ → ℕ → List Step
+sentRound a f = call (put f) ∷ hopsFrom 0 (countIn a) ++ (call take ∷ [])
+
+-- A frame sent right round the loop, and the same frame walked past its records, whatever told was before:
+pub record Witnessed (a : List ℕ) (f : ℕ) (t : List Byte) : Type 0 where
+  -- put, hops and take are not refused, so none gives 6; one frame is taken, and all links are empty again.
+  pub out : ℕ
+  pub accepted : stepsRefused a (sentRound a f) ≡ 0
+  pub one-taken : framesTaken a (sentRound a f) ≡ out ∷ []
+  pub empty-again : AllEmpty (areaLeft a (sentRound a f))
+  -- Nor is the walk: it answers that frame, tells what the hops answered, and leaves the records that they left.
+  pub same : pil (walk f t) (recordsOf a) ≡ after
+      (walked (record { frame = out; refusal = 0 }) (allTold a (sentRound a f)))
+      (recordsOf (areaLeft a (sentRound a f)))
+
+-- Bytes of the length of an area, and zeros behind the records, so that no link holds a frame. Header and records may
+-- be anything.
+pub record NoFrames (a : List ℕ) : Type 0 where
+  pub long : length a ≡ areaSize (countIn a)
+  pub zeros-behind : (i : ℕ) → recordAt (countIn a) ≤ i → getD a i 0 ≡ 0
+
+pub record PlainEngine : Type 0 where
+  -- From any area that has no refusal and whose links are empty, every frame is witnessed.
+  pub witnessed : (a : List ℕ) (f : ℕ) (t : List Byte) → Judged a → AllEmpty a → f < frames →
+      length (numbers t) ≡ toldSize * countIn a → Witnessed a f t
+  -- On any bytes with empty links, and any number as the frame, the walk is refused as the put is, or neither is.
+  pub same-refusals : (a : List ℕ) (f : ℕ) (t : List Byte) → NoFrames a →
+      length (numbers t) ≡ toldSize * countIn a →
+      refusalIn (pil (walk f t) (recordsOf a) .answer) ≡ refusalIn (pil (onArea (put f)) a .answer)

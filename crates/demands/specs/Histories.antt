@@ -26,7 +26,7 @@ use Rattle.order.specs.RightRound.{first, rightRound, oneByOne}
 use Rattle.order.specs.Through.{Every}
 use Rattle.demands.specs.Calls.{Byte, numbers, Local, calledBy, Action, put, hop, take, local, drain, owes, save}
 use Rattle.demands.specs.Calls.{Answer, plain, hopped, taken, drained, owing, saving, decoded, encoded, polled}
-use Rattle.demands.specs.Calls.{told, acts, refusalIn}
+use Rattle.demands.specs.Calls.{walked, told, acts, refusalIn}
 
 -- ---- A history: one step after the other
 
@@ -87,6 +87,7 @@ takenBy c (saving k out) = []
 takenBy c (decoded r) = []
 takenBy c (encoded r) = []
 takenBy c (polled r) = []
+takenBy c (walked r t) = []
 
 -- the device that a hop names
 abbrev pub hopper : Action → ℕ
@@ -117,6 +118,7 @@ handedBy i c (saving k out) = []
 handedBy i c (decoded r) = []
 handedBy i c (encoded r) = []
 handedBy i c (polled r) = []
+handedBy i c (walked r t) = []
 
 -- the hops made: one by a hop that was not refused, and as many as a drain says
 abbrev pub hopsBy : Action → Answer → ℕ
@@ -129,6 +131,24 @@ hopsBy c (saving k out) = 0
 hopsBy c (decoded r) = 0
 hopsBy c (encoded r) = 0
 hopsBy c (polled r) = 0
+hopsBy c (walked r t) = 0
+
+-- a hop's answer in the four bytes of a walk
+abbrev pub fourBytes : HopAnswer → List ℕ
+fourBytes r = r .handed ∷ r .byte ∷ r .end ∷ r .event ∷ []
+
+-- what a hop that was not refused told
+abbrev pub toldBy : Action → Answer → List ℕ
+toldBy c (plain k) = []
+toldBy c (hopped r) = cond (eqb (r .refusal) 0) (fourBytes r) []
+toldBy c (taken r) = []
+toldBy c (drained r) = []
+toldBy c (owing r) = []
+toldBy c (saving k out) = []
+toldBy c (decoded r) = []
+toldBy c (encoded r) = []
+toldBy c (polled r) = []
+toldBy c (walked r t) = []
 
 -- the refused steps
 abbrev pub refusedBy : Step → Answer → ℕ
@@ -163,6 +183,9 @@ module _ (a : List ℕ) (ss : List Step) where
 
   abbrev pub allHanded : ℕ → List Got
   allHanded i = each (ofCall [] (handedBy i)) ss ((history a ss) .1)
+
+  abbrev pub allTold : List ℕ
+  allTold = each (ofCall [] toldBy) ss ((history a ss) .1)
 
   abbrev pub hopsMade : ℕ
   hopsMade = total (ofCall 0 hopsBy) ss ((history a ss) .1)

@@ -8,6 +8,7 @@ use coding::DecodeAnswer;
 use coding::EncodeAnswer;
 use device::Device;
 use poll_count::PollAnswer;
+use walk::WalkAnswer;
 ghost use mathlib.Core.Path.{_≡_};
 ghost use Rattle.device.specs.Device.{endLast};
 ghost use Rattle.calls.specs.Outcome.{Is};
@@ -18,6 +19,8 @@ ghost use Rattle.calls.specs.SetUp.{setUpOf};
 ghost use Rattle.saved.specs.Calls.{saveOf, openOf};
 ghost use Rattle.coding.specs.Coding.{decodeAnswer, encodeAnswer};
 ghost use Rattle.poll_count.specs.Count.{pollCount};
+ghost use Rattle.walk.specs.Walk.{walkOf};
+ghost use Rattle.walk.specs.Inner.{IsWalked};
 
 #[no_mangle]
 pub extern "C" fn pil_set_up(area: &mut [u8], items: &[u8]) -> u8
@@ -137,4 +140,13 @@ pub extern "C" fn pil_open(area: &mut [u8], save: &[u8]) -> u8
     ensures { λ r. ⌜ Is (openOf (now (area .entry)) (now (save .entry))) r (now (area .exit)) ⌝ }
 {
     open::open(area, save)
+}
+
+// The second witness: a frame past every device, without links.
+#[no_mangle]
+pub extern "C" fn pil_walk(records: &mut [u8], frame: u64, told: &mut [u8]) -> WalkAnswer
+    ensures { λ r. ⌜ IsWalked (walkOf (now (records .entry)) frame (now (told .entry))) r (now (records .exit))
+        (now (told .exit)) ⌝ }
+{
+    engine::walk(records, frame, told)
 }

@@ -30,11 +30,12 @@ use Rattle.calls.specs.Calls.{hopAnswer, hopIn, loadIn}
 use Rattle.saved.specs.Saved.{saved, formed}
 use Rattle.saved.specs.Calls.{openWith, openOf}
 use Rattle.saved.proofs.Laws.{open-saved, saved-bytes}
-use Rattle.demands.specs.Calls.{Byte, numbers, Action, put, hop, drain, save, Call, onArea, opens, Answer, hopped}
+use Rattle.demands.specs.Calls.{Byte, numbers, Action, put, hop, drain, save, Call, onArea, opens, walk, Answer}
+use Rattle.demands.specs.Calls.{hopped}
 use Rattle.demands.specs.Conditions.{due}
 use Rattle.demands.specs.Histories.{Got, got, reported, handedBy, hopsBy}
 use Rattle.demands.specs.Drains.{highestOf, stopsBefore, onceHopped, byHops}
-use Rattle.demands.specs.Demands.{Judged, CanHop, ruled, hopLeaves, Obeys}
+use Rattle.demands.specs.Demands.{Judged, CanHop, ruled, hopLeaves, Obeys, recordsOf}
 use Rattle.demands.proofs.First.{demand-1}
 use Rattle.teeth.specs.Teeth.{RefuserShutOut, LowestGiven, TenFirst, ChoiceFirst, frameIn, kindIn}
 use Rattle.teeth.specs.Teeth.{OneKindShutOut, PasserShutOut, WorkerShutOut, InventedCountShutOut}
@@ -92,10 +93,10 @@ abbrev zeroBytes : ℕ → List Byte
 zeroBytes n = replicate n (record { value = 0; small = lit< tt })
 
 accepted : (due (onArea (put 0)) one ≡ 0) × (due (onArea (hop 0)) one ≡ 0) ×
-    (due (onArea (save (zeroBytes 116))) one ≡ 0)
+    (due (onArea (save (zeroBytes 116))) one ≡ 0) × (due (walk 0 (zeroBytes 4)) (recordsOf one) ≡ 0)
 unfolding powerOn bytesFrom deviceOf recordOf zeros soundDevice soundRecord parts join all framesOf linkOf soundSlot
     soundLink loopOf areaOf shapedWith sound judgeWith
-accepted = (refl, refl, refl)
+accepted = (refl, refl, refl, refl)
 
 -- numbers below 256 as bytes
 asBytes : (b : List ℕ) → Bytes b → List Byte
@@ -125,6 +126,8 @@ refuser-shut-out =
       of-hops = λ model never r. never 0 one (r .by-table (onArea (hop 0)) one ∙ accepted .1);
       of-saves = λ model never r. never 116 one (r .by-table (onArea (save (zeroBytes 116))) one ∙ accepted .2);
       of-openings = λ model never r. never itsSave one (r .by-table (opens itsSave) one ∙ opened);
+      of-walks = λ model never r. never 0 (zeroBytes 4) (recordsOf one)
+          (r .by-table (walk 0 (zeroBytes 4)) (recordsOf one) ∙ accepted .3);
     }
 
 pub lowest-given : LowestGiven

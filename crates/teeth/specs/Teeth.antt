@@ -13,7 +13,7 @@ use Rattle.area.specs.Loop.{Loop, countIn, loopOf, areaOf, device, link}
 use Rattle.calls.specs.Outcome.{After}
 use Rattle.demands.specs.Calls.{Byte, load, Action, put, hop, local, drain, save, Call, onArea, opens, onFrame, decode}
 use Rattle.demands.specs.Calls.{Answer, plain, hopped, taken, drained, owing, saving, decoded, encoded, polled, pil}
-use Rattle.demands.specs.Calls.{refusalIn}
+use Rattle.demands.specs.Calls.{walk, walked, refusalIn}
 use Rattle.demands.specs.Conditions.{Shape, Unsound, NoDevice, Empty, Full, BadSave}
 use Rattle.demands.specs.Histories.{hopsBy}
 use Rattle.demands.specs.Demands.{Refuses, CanHop, ruled, Obeys}
@@ -25,13 +25,15 @@ abbrev pub NoneRefusing : (ℕ → Action) → Type 0
 NoneRefusing call = (model : Call → List ℕ → After Answer) →
     ((x : ℕ) (a : List ℕ) → refusalIn (model (onArea (call x)) a .answer) ≡ 0 → ⊥) → Refuses model → ⊥
 
--- be it every put, every hop, every save in an output of zeros, or every opening.
+-- be it every put, every hop, every save in an output of zeros, every opening, or every walk.
 pub record RefuserShutOut : Type 0 where
   pub of-puts : NoneRefusing put
   pub of-hops : NoneRefusing hop
   pub of-saves : NoneRefusing (λ x. save (replicate x (record { value = 0; small = lit< tt })))
   pub of-openings : (model : Call → List ℕ → After Answer) →
       ((s : List Byte) (a : List ℕ) → refusalIn (model (opens s) a .answer) ≡ 0 → ⊥) → Refuses model → ⊥
+  pub of-walks : (model : Call → List ℕ → After Answer) →
+      ((f : ℕ) (t : List Byte) (a : List ℕ) → refusalIn (model (walk f t) a .answer) ≡ 0 → ⊥) → Refuses model → ⊥
 
 -- one device with no frame before it and four behind it: 5 and 6 both hold for its hop, and 5 is given
 abbrev pub stuck : Loop
@@ -67,6 +69,7 @@ frameIn (saving k out) = 0
 frameIn (decoded r) = 0
 frameIn (encoded r) = 0
 frameIn (polled r) = 0
+frameIn (walked r t) = 0
 
 abbrev pub kindIn : Answer → ℕ
 kindIn (plain k) = 0
@@ -78,6 +81,7 @@ kindIn (saving k out) = 0
 kindIn (decoded r) = r .kind
 kindIn (encoded r) = 0
 kindIn (polled r) = 0
+kindIn (walked r t) = 0
 
 -- No model whose decoder has one kind for every frame meets demand 2.
 abbrev pub OneKindShutOut : Type 0

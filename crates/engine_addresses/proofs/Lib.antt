@@ -1,0 +1,2 @@
+-- What the clauses come to by byte 3.
+mod ByConfigured

@@ -1,0 +1,2 @@
+-- The clauses on addresses, as the plain engine tests them.
+pub mod Addresses

@@ -1,0 +1,2 @@
+-- The values of a record that are one byte each.
+pub mod Single

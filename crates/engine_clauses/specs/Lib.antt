@@ -1,0 +1,2 @@
+-- Clauses that the plain engine tests at a time.
+pub mod Clauses

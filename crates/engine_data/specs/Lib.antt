@@ -1,0 +1,2 @@
+-- What a device in a record sent.
+pub mod Passed

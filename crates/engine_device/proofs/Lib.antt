@@ -1,0 +1,2 @@
+-- The rule of a frame at an extended device.
+pub mod Own

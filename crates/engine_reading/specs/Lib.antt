@@ -1,0 +1,2 @@
+-- The data bits that a kind leaves free.
+pub mod Reading

@@ -1,0 +1,2 @@
+-- The four states moved by their bits.
+pub mod Moves

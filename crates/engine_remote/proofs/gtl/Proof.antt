@@ -1,0 +1,49 @@
+-- `engine_remote::gtl` meets its contract: each return follows from the tests on its way, and the bits are the moves.
+use borrow.Author.Needs.{needs}
+use mathlib.Core.Path.{_≡_, ap, _∙_}
+use native.Mathlib.Omega.{arith}
+use Rattle.device.specs.Device.{LOCS, REMS, LWLS, RWLS}
+use Rattle.device.specs.Change.{remoting}
+use Rattle.device.specs.Remote.{gtl}
+use Rattle.device.proofs.Arms.{arms, when-eq}
+use Rattle.record.specs.Record.{deviceOf}
+use Rattle.engine_remote.proofs.Moves.{made-local, unmoved}
+use Rattle.engine_remote.proofs.gtl.Statement.{statement}
+use Rattle.engine_remote.proofs.gtl.Tie as tie
+
+returns : tie.Need-returns
+unfolding deviceOf gtl
+returns c = (search needs, search arms)
+
+returns-2 : tie.Need-returns-2
+unfolding deviceOf gtl
+returns-2 c =
+    let n = c .before .before in
+    let i = n .before .before in
+    let j = i .before in
+    let b = j .before .before .before .before .args .rec .now in (
+      n .store .ensures .0,
+      when-eq _ _ (j .if1 .left) (n .store .ensures .1 ∙ ap (remoting (deviceOf b)) (made-local _ (i .if2 .taken))),
+    )
+
+returns-3 : tie.Need-returns-3
+unfolding deviceOf gtl
+returns-3 c =
+    let j = c .before in
+    let b = j .before .before .before .before .args .rec .now in (
+      search needs,
+      when-eq _ _ (j .if1 .left) (unmoved (deviceOf b) REMS LOCS RWLS LWLS (c .if2 .left) (omega arith) (omega arith)),
+    )
+
+pub gtl-spec : {M : Type 1} → statement M
+unfolding deviceOf
+gtl-spec =
+    tie.close
+    (tie.spec
+    (λ c. search needs)
+    (λ c. search needs)
+    returns
+    (λ c κs. search needs)
+    (λ c. search needs)
+    returns-2
+    returns-3)

@@ -1,0 +1,2 @@
+-- The rule of a frame that was read.
+pub mod Ruled

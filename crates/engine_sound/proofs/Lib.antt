@@ -1,0 +1,3 @@
+-- The clauses in groups, and records tested one by one.
+mod Grouped
+mod Each

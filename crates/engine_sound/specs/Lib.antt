@@ -1,0 +1,2 @@
+-- The clauses of soundness in the plain engine's groups.
+pub mod Groups

@@ -1,0 +1,2 @@
+-- What the clauses on a talker come to by what it sends.
+mod ByState

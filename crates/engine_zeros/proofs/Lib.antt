@@ -1,0 +1,2 @@
+-- A stretch tested byte by byte.
+pub mod Stretch

@@ -1,0 +1,2 @@
+-- The laws of a walk.
+pub mod Laws
