@@ -59,11 +59,12 @@ module _ (a t : List ℕ) (small : Bytes a) (fit : Fitting a t) (sound : soundRe
   -- the records are those of the devices
   pub written : drop headerSize a ≡ join (map recordOf (devicesIn a))
   written =
-      let long : length (drop headerSize a) ≡ recordSize * countIn a = simp length-drop (omega (arith, fit .long)) in
-      sym (rw (map-back recordOf deviceOf soundRecord recordSize (λ b l s h. record-back b l s) (countIn a) (drop headerSize a)
-      (omega arith) (λ i. rw getD-drop (small (headerSize + i))) tested)
-      (join-parts recordSize (countIn a) (drop headerSize a)
-      ∙ take-all (recordSize * countIn a) (drop headerSize a) (omega arith)))
+      let b = drop headerSize a in
+      let small-too : Bytes b = λ i. rw getD-drop (small (headerSize + i)) in
+      let long : length b ≡ recordSize * countIn a = simp length-drop (omega (arith, fit .long)) in
+      let back = map-back recordOf deviceOf soundRecord recordSize (λ r l s h. record-back r l s) in
+      sym (rw (back (countIn a) b (omega arith) small-too tested)
+      (join-parts recordSize (countIn a) b ∙ take-all (recordSize * countIn a) b (omega arith)))
 
 -- ---- one device more
 

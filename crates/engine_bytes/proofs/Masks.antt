@@ -21,4 +21,5 @@ any mask x = not (eqb (bitAnd x mask) 0)
 
 pub any-of-four : (x : ℕ) → x < 256 → any 30 x ≡ (any 2 x || (any 4 x || (any 8 x || any 16 x)))
 any-of-four x h =
-    numbered _ _ (same (λ y. number (any 30 y)) (λ y. number (any 2 y || (any 4 y || (any 8 y || any 16 y)))) 256 x refl h)
+    let four : ℕ → Bool = λ y. any 2 y || (any 4 y || (any 8 y || any 16 y)) in
+    numbered _ _ (same (λ y. number (any 30 y)) (λ y. number (four y)) 256 x refl h)

@@ -1,5 +1,5 @@
-// Extended addresses in a record (02, i): the record of an extended device after the frames that it has rules of its own
-// for, and where it begins with any other command.
+// Extended addresses in a record (02, i): the record of an extended device after the frames that it has rules of its
+// own for, and where it begins with any other command.
 use engine_bytes::flag;
 use engine_bytes::place;
 use engine_bytes::store;

@@ -22,7 +22,8 @@ few f = go (decLt 0 (kindAt f))
     go (no h) = omega arith
 
 -- what holds of a kind and a frame of it: tried on all frames, and shown for kind 0
-everywhere : (g h : (kind frame : ℕ) → ℕ) → values (λ f. g (kindAt f) f) 0 frames ≡ values (λ f. h (kindAt f) f) 0 frames →
+everywhere : (g h : (kind frame : ℕ) → ℕ) →
+    values (λ f. g (kindAt f) f) 0 frames ≡ values (λ f. h (kindAt f) f) 0 frames →
     ((f : ℕ) → g 0 f ≡ h 0 f) → (f : ℕ) → g (kindAt f) f ≡ h (kindAt f) f
 everywhere g h e z f = go (decLt f frames)
   where

@@ -175,7 +175,8 @@ fn grouped(frame: u16) -> u8
     }
 }
 
-// The kind by the frame's bits, as 001's table prints them: control bits, then the data bits' first three, then the rest.
+// The kind by the frame's bits, as 001's table prints them: control bits, then the data bits' first three, then the
+// rest.
 fn kind(frame: u16) -> u8
     ensures { λ r. ⌜ r ≡ kindAt frame ⌝ }
 {

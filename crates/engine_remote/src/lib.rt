@@ -1,4 +1,5 @@
-// Remote and local in a record (02, d; 001, 2.17), by bits: of the four states' numbers bit 0 says remote, bit 1 locked.
+// Remote and local in a record (02, d; 001, 2.17), by bits: of the four states' numbers bit 0 says remote, bit 1
+// locked.
 use engine_bytes::store;
 use engine_table::LISTENER;
 use engine_table::REMOTE;

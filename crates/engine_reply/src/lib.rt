@@ -1,5 +1,5 @@
-// The replies of a talker (01, What a device does with a frame, from "Reply bytes are DAB"; 02, h), sent from its record
-// and counted there.
+// The replies of a talker (01, What a device does with a frame, from "Reply bytes are DAB"; 02, h), sent from its
+// record and counted there.
 use engine_bytes::count;
 use engine_bytes::talk;
 use engine_reading::DAB;

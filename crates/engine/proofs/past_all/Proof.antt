@@ -1,5 +1,5 @@
 -- `engine::past_all` meets its contract: device by device, what is written, told and still to come make up the walk.
-use Prim.Native.Nat.{ℕ, _-_, _*_}
+use Prim.Native.Nat.{ℕ, _-_, _*_, _<_}
 use mathlib.Core.Path.{_≡_, refl, sym, _∙_}
 use mathlib.Core.List.{[]}
 use native.Mathlib.Omega.{arith}
@@ -30,6 +30,12 @@ each-good c =
     let s = c .before .before .before in
     good (s .args .records .now) (s .args .told .now) (λ i. c .slice-known3 .given i .fits) (s .pre .0) (s .pre .1)
 
+-- a turn is made for one of the devices, at most 31
+near : (c : tie.In-loop Inv-loop μ-loop) → c .before .loop .i < 31
+near c =
+    let s = c .before .before .before .before .before .before in
+    omega (arith, c .loop-test .taken, c .before .loop .inv .0, s .pre .0 .few)
+
 loop-holds : tie.Need-loop-holds Inv-loop μ-loop
 loop-holds c =
     let k = c .before in
@@ -51,6 +57,11 @@ take-requires c κs =
           (x .inv .2) (t .loop-test .taken) (each-good k),
       x .inv .1,
     )
+
+part-tell-end : tie.Need-part-tell-end Inv-loop μ-loop
+part-tell-end c =
+    let t = c .before .before .before .before .before in
+    omega (arith, t .loop-test .taken, t .before .loop .inv .2 .told)
 
 tell-requires : tie.Need-tell-requires Inv-loop μ-loop
 tell-requires c κs =
@@ -80,8 +91,8 @@ returns c =
     let l = c .before in
     let s = l .before .before .before .before .before in
     let x = l .loop in
-    ends (s .args .records .now) (s .args .told .now) (s .args .frame) (x .i) (x .records) (x .told) (x .out) (x .inv .2)
-    (c .loop-test .left)
+    ends (s .args .records .now) (s .args .told .now) (s .args .frame) (x .i) (x .records) (x .told) (x .out)
+    (x .inv .2) (c .loop-test .left)
 
 pub past-all-spec : {M : Type 1} → statement M
 past-all-spec =
@@ -93,21 +104,21 @@ past-all-spec =
     (λ c. omega (arith, c .slice-known3 .given 0))
     (λ c κs. search needs)
     loop-holds
-    (λ c. omega (arith, c .loop-test .taken, c .before .before .before .before .before .before .pre .0 .few))
-    (λ c. omega (arith, c .loop-test .taken, c .before .before .before .before .before .before .pre .0 .few))
-    (λ c. omega (arith, c .loop-test .taken, c .before .before .before .before .before .before .pre .0 .few))
+    (λ c. omega (arith, near c))
+    (λ c. omega (arith, near c))
+    (λ c. omega (arith, near c))
     (λ c. search needs)
     (λ c. search needs)
     (λ c. omega (arith, c .loop-test .taken, c .before .loop .inv .2 .long))
     take-requires
     (λ c κs. c .before .before .before .before .before .loop .inv .1)
-    (λ c. omega (arith, c .before .before .before .before .before .loop-test .taken, c .before .before .before .before .before .before .before .before .before .before .before .pre .0 .few))
-    (λ c. omega (arith, c .before .before .before .before .before .loop-test .taken, c .before .before .before .before .before .before .before .before .before .before .before .pre .0 .few))
+    (λ c. omega (arith, near (c .before .before .before .before .before)))
+    (λ c. omega (arith, near (c .before .before .before .before .before)))
     (λ c. search needs)
     (λ c. search needs)
-    (λ c. omega (arith, c .before .before .before .before .before .loop-test .taken, c .before .before .before .before .before .before .loop .inv .2 .told))
+    part-tell-end
     tell-requires
-    (λ c. omega (arith, c .before .before .before .before .before .before .before .before .before .loop-test .taken, c .before .before .before .before .before .before .before .before .before .before .before .before .before .before .before .pre .0 .few))
+    (λ c. omega (arith, near (c .before .before .before .before .before .before .before .before .before)))
     (λ c. omega (arith, c .before .before .before .before .before .before .before .before .before .loop-test .taken))
     loop-again
     (λ c. c .before .loop .inv .2 .long ∙ sym (c .before .before .before .before .before .before .pre .0 .long))

@@ -1,4 +1,5 @@
--- `engine_bytes::count` meets its contract: the bytes stored are those of the values that change, the frame low byte first.
+-- `engine_bytes::count` meets its contract: the bytes stored are those of the values that change, the frame low byte
+-- first.
 use Prim.Native.Nat.{ℕ, _/_, _%_}
 use mathlib.Core.Path.{refl}
 use mathlib.Core.List.{List, [], _∷_}

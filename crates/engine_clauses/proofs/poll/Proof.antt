@@ -1,5 +1,5 @@
--- `engine_clauses::poll` meets its contract: the tests are the clauses, on bytes 7, 22 and 23, and two zeros pass all of
--- them.
+-- `engine_clauses::poll` meets its contract: the tests are the clauses, on bytes 7, 22 and 23, and two zeros pass all
+-- of them.
 use mathlib.Core.Path.{_≡_, refl}
 use mathlib.Core.Bool.{Bool, true, false, not, _&&_, _||_}
 use lib.Bits.{bitAnd}
@@ -23,7 +23,8 @@ returns c =
     let x = eqb (getD b 22 0) 0 in
     let y = eqb (getD b 23 0) 0 in
     let t : (x && y) ≡ true = c .if1 .taken in
-    rw (eqb-true (getD b 22 0) 0 (left x y t), eqb-true (getD b 23 0) 0 (right x y t)) (zeros-pass (not (eqb (bitAnd (getD b 7 0) 1) 0)))
+    rw (eqb-true (getD b 22 0) 0 (left x y t), eqb-true (getD b 23 0) 0 (right x y t))
+    (zeros-pass (not (eqb (bitAnd (getD b 7 0) 1) 0)))
 
 returns-2 : tie.Need-returns-2
 unfolding deviceOf

@@ -1,4 +1,5 @@
--- `engine_commands::lad` meets its contract: each return follows from the tests on its way, and what is changed one after the other is the rule's.
+-- `engine_commands::lad` meets its contract: each return follows from the tests on its way, and what is changed one
+-- after the other is the rule's.
 use borrow.Author.Needs.{needs}
 use mathlib.Core.Path.{_≡_, ap, _∙_}
 use Rattle.device.specs.Change.{listening, talking}
@@ -34,7 +35,8 @@ unfolding deviceOf lad
 returns-4 c =
     let n = c .before .before .before in
     let j = n .before .before .before .before .before .before in
-    (n .store .ensures .0, when-eq _ _ (j .before .if1 .left) (able _ _ (j .if2 .left) (unable _ _ (c .if3 .left) (listens n))))
+    let e = unable _ _ (c .if3 .left) (listens n) in
+    (n .store .ensures .0, when-eq _ _ (j .before .if1 .left) (able _ _ (j .if2 .left) e))
 
 pub lad-spec : {M : Type 1} → statement M
 unfolding deviceOf lad

@@ -1,4 +1,5 @@
--- `engine_device::extended` meets its contract: each arm is its own rule of the kind, and all else a simple device's from where it begins.
+-- `engine_device::extended` meets its contract: each arm is its own rule of the kind, and all else a simple device's
+-- from where it begins.
 use borrow.Author.Needs.{needs}
 use mathlib.Core.Path.{_≡_, refl, sym, ap, _∙_}
 use native.Mathlib.Omega.{arith}
@@ -30,7 +31,25 @@ none : (c : tie.At-match-rest) →
     let s = c .before .before in
     let f = s .args .frame in
     Unlisted (s .args .message .kind) (extendedRules (deviceOf (s .args .rec .now)) f (decoded f))
-none c = (search needs, (search needs, (search needs, (search needs, (search needs, (search needs, (search needs, tt)))))))
+none c = (
+  search needs,
+  (
+    search needs,
+    (
+      search needs,
+      (
+        search needs,
+        (
+          search needs,
+          (
+            search needs,
+            (search needs, tt),
+          ),
+        ),
+      ),
+    ),
+  ),
+)
 
 aes-requires : tie.Need-aes-requires
 aes-requires c κs =

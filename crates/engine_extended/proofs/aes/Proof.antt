@@ -1,4 +1,5 @@
--- `engine_extended::aes` meets its contract: each return follows from the test on its way, and the changes are the rule's, one after the other.
+-- `engine_extended::aes` meets its contract: each return follows from the test on its way, and the changes are the
+-- rule's, one after the other.
 use borrow.Author.Needs.{needs}
 use Prim.Native.Nat.{_+_}
 use lib.ListN.{getD}

@@ -1,4 +1,5 @@
--- `engine_extended::lad` meets its contract: each return follows from the tests on its way, and the changes are the rule's, one after the other.
+-- `engine_extended::lad` meets its contract: each return follows from the tests on its way, and the changes are the
+-- rule's, one after the other.
 use borrow.Author.Needs.{needs}
 use mathlib.Core.Path.{_≡_, refl, ap, _∙_}
 use Rattle.device.specs.Change.{flagging}

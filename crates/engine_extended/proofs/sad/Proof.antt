@@ -1,4 +1,5 @@
--- `engine_extended::sad` meets its contract: each return follows from the tests on its way, and the own SAD listens before it talks.
+-- `engine_extended::sad` meets its contract: each return follows from the tests on its way, and the own SAD listens
+-- before it talks.
 use borrow.Author.Needs.{needs}
 use mathlib.Core.Path.{_≡_, refl, ap, _∙_}
 use Rattle.device.specs.Extended.{sadTalks, sad}

@@ -1,4 +1,5 @@
--- `engine_poll::answer` meets its contract: the constant holds the powers of two, and each return follows from the tests on its way.
+-- `engine_poll::answer` meets its contract: the constant holds the powers of two, and each return follows from the
+-- tests on its way.
 use borrow.Author.Needs.{needs}
 use Prim.Native.Nat.{ℕ, _%_, _^_, _≤_, _<_}
 use mathlib.Core.Path.{_≡_}

@@ -1,4 +1,5 @@
--- `engine_reading::command` meets its contract: each code is looked up, and the other codes of the group are of no kind.
+-- `engine_reading::command` meets its contract: each code is looked up, and the other codes of the group are of no
+-- kind.
 use borrow.Author.Needs.{needs}
 use Prim.Native.Nat.{ℕ, _+_}
 use mathlib.Core.Path.{_≡_, refl}
@@ -54,7 +55,31 @@ returns-10 : tie.Need-returns-10
 unfolding messages within lookup kindAt
 returns-10 c =
     let x = c .before .args .low in
-    others g (λ y. isIn y keys) 32 refl x (c .before .pre) (not-in x keys (search needs, (search needs, (search needs, (search needs, (search needs, (search needs, (search needs, (search needs, (search needs, tt))))))))))
+    others g (λ y. isIn y keys) 32 refl x (c .before .pre) (not-in x keys (
+      search needs,
+      (
+        search needs,
+        (
+          search needs,
+          (
+            search needs,
+            (
+              search needs,
+              (
+                search needs,
+                (
+                  search needs,
+                  (
+                    search needs,
+                    (search needs, tt),
+                  ),
+                ),
+              ),
+            ),
+          ),
+        ),
+      ),
+    ))
 
 pub command-spec : {M : Type 1} → statement M
 command-spec =

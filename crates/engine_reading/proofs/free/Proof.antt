@@ -69,7 +69,46 @@ returns-14 : tie.Need-returns-14
 unfolding messages codesIn codesOf hasC1 freeBits
 returns-14 c =
     let k = c .before .args .kind in
-    others freeBits (λ x. isIn x keys) kinds refl k (c .before .pre) (not-in k keys (search needs, (search needs, (search needs, (search needs, (search needs, (search needs, (search needs, (search needs, (search needs, (search needs, (search needs, (search needs, (search needs, tt))))))))))))))
+    others freeBits (λ x. isIn x keys) kinds refl k (c .before .pre) (not-in k keys (
+      search needs,
+      (
+        search needs,
+        (
+          search needs,
+          (
+            search needs,
+            (
+              search needs,
+              (
+                search needs,
+                (
+                  search needs,
+                  (
+                    search needs,
+                    (
+                      search needs,
+                      (
+                        search needs,
+                        (
+                          search needs,
+                          (
+                            search needs,
+                            (
+                              search needs,
+                              tt,
+                            ),
+                          ),
+                        ),
+                      ),
+                    ),
+                  ),
+                ),
+              ),
+            ),
+          ),
+        ),
+      ),
+    ))
 
 pub free-spec : {M : Type 1} → statement M
 free-spec =

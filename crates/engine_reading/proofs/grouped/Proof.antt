@@ -102,7 +102,40 @@ returns-15 c =
     let e : 0x400 + (f - 0x400) ≡ f = omega (arith, p) in
     let g : (f - 0x400) / 32 + 32 ≡ f / 32 = omega (arith, p) in
     others (λ x. kindAt (0x400 + x)) (λ x. isIn (x / 32 + 32) keys) 512 refl (f - 0x400) (omega (arith, p))
-    (rw g (not-in (f / 32) keys (search needs, (search needs, (search needs, (search needs, (search needs, (search needs, (search needs, (search needs, (search needs, (search needs, (search needs, (search needs, (search needs, (search needs, tt)))))))))))))))) ∙ ap kindAt e
+    (rw g (not-in (f / 32) keys (
+      search needs,
+      (
+        search needs,
+        (
+          search needs,
+          (
+            search needs,
+            (
+              search needs,
+              (
+                search needs,
+                (
+                  search needs,
+                  (
+                    search needs,
+                    (
+                      search needs,
+                      (
+                        search needs,
+                        (
+                          search needs,
+                          (search needs, (search needs, (search needs, tt))),
+                        ),
+                      ),
+                    ),
+                  ),
+                ),
+              ),
+            ),
+          ),
+        ),
+      ),
+    ))) ∙ ap kindAt e
 
 pub grouped-spec : {M : Type 1} → statement M
 grouped-spec =

@@ -1,4 +1,5 @@
--- `engine_reading::kind` meets its contract: data, end and identify lie between their bounds, and past 2,047 there is no frame.
+-- `engine_reading::kind` meets its contract: data, end and identify lie between their bounds, and past 2,047 there is
+-- no frame.
 use borrow.Author.Needs.{needs}
 use mathlib.Core.Path.{sym}
 use native.Mathlib.Omega.{arith}

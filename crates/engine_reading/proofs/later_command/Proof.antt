@@ -1,4 +1,5 @@
--- `engine_reading::later_command` meets its contract: each code is looked up, and the other codes of the group are of no kind.
+-- `engine_reading::later_command` meets its contract: each code is looked up, and the other codes of the group are of
+-- no kind.
 use borrow.Author.Needs.{needs}
 use Prim.Native.Nat.{ℕ, _+_}
 use mathlib.Core.Path.{_≡_, refl}
@@ -48,7 +49,16 @@ returns-7 c =
     let i = c .before in
     let x = i .before .args .low in
     others g (λ y. ltb y 16 || isIn y keys) 32 refl x (i .before .pre)
-    (rw (le-ltb x 16 (i .if1 .left)) (not-in x keys (search needs, (search needs, (search needs, (search needs, (search needs, tt)))))))
+    (rw (le-ltb x 16 (i .if1 .left)) (not-in x keys (
+      search needs,
+      (
+        search needs,
+        (
+          search needs,
+          (search needs, (search needs, tt)),
+        ),
+      ),
+    )))
 
 pub later-command-spec : {M : Type 1} → statement M
 later-command-spec =

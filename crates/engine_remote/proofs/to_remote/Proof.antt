@@ -1,4 +1,5 @@
--- `engine_remote::to_remote` meets its contract: each return follows from the tests on its way, and the bits are the moves.
+-- `engine_remote::to_remote` meets its contract: each return follows from the tests on its way, and the bits are the
+-- moves.
 use borrow.Author.Needs.{needs}
 use mathlib.Core.Path.{_≡_, ap, _∙_}
 use native.Mathlib.Omega.{arith}

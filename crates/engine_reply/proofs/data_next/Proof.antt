@@ -1,4 +1,5 @@
--- `engine_reply::data_next` meets its contract: a place of the data is that byte of the record, and past them there is none.
+-- `engine_reply::data_next` meets its contract: a place of the data is that byte of the record, and past them there is
+-- none.
 use borrow.Author.Needs.{needs}
 use Rattle.record.specs.Record.{deviceOf}
 use Rattle.record.proofs.Places.{place, no-place}

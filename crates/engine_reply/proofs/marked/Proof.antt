@@ -1,4 +1,5 @@
--- `engine_reply::marked` meets its contract: the message goes out with C1 set or as it is, by the test of the definition.
+-- `engine_reply::marked` meets its contract: the message goes out with C1 set or as it is, by the test of the
+-- definition.
 use borrow.Author.Needs.{needs}
 use Rattle.device.proofs.Arms.{arms}
 use Rattle.record.specs.Record.{deviceOf}

@@ -26,7 +26,8 @@ returns c =
     let m = o .before .before in
     let s = m .before .before in
     let d = deviceOf (s .args .rec .now) in
-    (o .lad .ensures .0, obeyed d _ _ (s .pre .1 .command .read) 12 (lad d) (m .match .keys1) (o .lad .ensures .1) refl)
+    let e = obeyed d _ _ (s .pre .1 .command .read) 12 (lad d) (m .match .keys1) (o .lad .ensures .1) refl in
+    (o .lad .ensures .0, e)
 
 returns-2 : tie.Need-returns-2
 unfolding choose
@@ -35,7 +36,8 @@ returns-2 c =
     let m = o .before .before in
     let s = m .before .before in
     let d = deviceOf (s .args .rec .now) in
-    (o .store .ensures .0, obeyed d _ _ (s .pre .1 .command .read) 13 (λ o. unl d) (m .match .keys2) (o .store .ensures .1) refl)
+    let e = obeyed d _ _ (s .pre .1 .command .read) 13 (λ o. unl d) (m .match .keys2) (o .store .ensures .1) refl in
+    (o .store .ensures .0, e)
 
 returns-3 : tie.Need-returns-3
 unfolding choose
@@ -44,7 +46,8 @@ returns-3 c =
     let m = o .before .before in
     let s = m .before .before in
     let d = deviceOf (s .args .rec .now) in
-    (o .tad .ensures .0, obeyed d _ _ (s .pre .1 .command .read) 14 (tad d) (m .match .keys3) (o .tad .ensures .1) refl)
+    let e = obeyed d _ _ (s .pre .1 .command .read) 14 (tad d) (m .match .keys3) (o .tad .ensures .1) refl in
+    (o .tad .ensures .0, e)
 
 returns-4 : tie.Need-returns-4
 unfolding choose
@@ -53,7 +56,8 @@ returns-4 c =
     let m = o .before .before in
     let s = m .before .before in
     let d = deviceOf (s .args .rec .now) in
-    (o .talk .ensures .0, obeyed d _ _ (s .pre .1 .command .read) 15 (λ o. unt d) (m .match .keys4) (o .talk .ensures .1) refl)
+    let e = obeyed d _ _ (s .pre .1 .command .read) 15 (λ o. unt d) (m .match .keys4) (o .talk .ensures .1) refl in
+    (o .talk .ensures .0, e)
 
 returns-5 : tie.Need-returns-5
 unfolding choose
@@ -62,7 +66,8 @@ returns-5 c =
     let m = o .before .before in
     let s = m .before .before in
     let d = deviceOf (s .args .rec .now) in
-    (o .ifc .ensures .0, obeyed d _ _ (s .pre .1 .command .read) 18 (λ o. ifc d) (m .match .keys5) (o .ifc .ensures .1) refl)
+    let e = obeyed d _ _ (s .pre .1 .command .read) 18 (λ o. ifc d) (m .match .keys5) (o .ifc .ensures .1) refl in
+    (o .ifc .ensures .0, e)
 
 returns-6 : tie.Need-returns-6
 unfolding choose
@@ -71,7 +76,8 @@ returns-6 c =
     let m = o .before .before in
     let s = m .before .before in
     let d = deviceOf (s .args .rec .now) in
-    (o .aau .ensures .0, obeyed d _ _ (s .pre .1 .command .read) 21 (λ o. aau d) (m .match .keys6) (o .aau .ensures .1) refl)
+    let e = obeyed d _ _ (s .pre .1 .command .read) 21 (λ o. aau d) (m .match .keys6) (o .aau .ensures .1) refl in
+    (o .aau .ensures .0, e)
 
 returns-7 : tie.Need-returns-7
 unfolding choose
@@ -80,7 +86,8 @@ returns-7 c =
     let m = o .before .before in
     let s = m .before .before in
     let d = deviceOf (s .args .rec .now) in
-    (o .ren .ensures .0, obeyed d _ _ (s .pre .1 .command .read) 19 (λ o. ren d) (m .match .keys7) (o .ren .ensures .1) refl)
+    let e = obeyed d _ _ (s .pre .1 .command .read) 19 (λ o. ren d) (m .match .keys7) (o .ren .ensures .1) refl in
+    (o .ren .ensures .0, e)
 
 returns-8 : tie.Need-returns-8
 unfolding choose
@@ -89,7 +96,8 @@ returns-8 c =
     let m = o .before .before in
     let s = m .before .before in
     let d = deviceOf (s .args .rec .now) in
-    (o .nre .ensures .0, obeyed d _ _ (s .pre .1 .command .read) 20 (λ o. nre d) (m .match .keys8) (o .nre .ensures .1) refl)
+    let e = obeyed d _ _ (s .pre .1 .command .read) 20 (λ o. nre d) (m .match .keys8) (o .nre .ensures .1) refl in
+    (o .nre .ensures .0, e)
 
 returns-9 : tie.Need-returns-9
 unfolding choose
@@ -98,7 +106,8 @@ returns-9 c =
     let m = o .before .before in
     let s = m .before .before in
     let d = deviceOf (s .args .rec .now) in
-    (o .llo .ensures .0, obeyed d _ _ (s .pre .1 .command .read) 8 (λ o. llo d) (m .match .keys9) (o .llo .ensures .1) refl)
+    let e = obeyed d _ _ (s .pre .1 .command .read) 8 (λ o. llo d) (m .match .keys9) (o .llo .ensures .1) refl in
+    (o .llo .ensures .0, e)
 
 returns-10 : tie.Need-returns-10
 unfolding choose
@@ -107,7 +116,8 @@ returns-10 c =
     let m = o .before .before in
     let s = m .before .before in
     let d = deviceOf (s .args .rec .now) in
-    (o .gtl .ensures .0, obeyed d _ _ (s .pre .1 .command .read) 4 (λ o. gtl d) (m .match .keys10) (o .gtl .ensures .1) refl)
+    let e = obeyed d _ _ (s .pre .1 .command .read) 4 (λ o. gtl d) (m .match .keys10) (o .gtl .ensures .1) refl in
+    (o .gtl .ensures .0, e)
 
 returns-11 : tie.Need-returns-11
 unfolding choose
@@ -116,7 +126,8 @@ returns-11 c =
     let m = o .before .before in
     let s = m .before .before in
     let d = deviceOf (s .args .rec .now) in
-    (o .ppe .ensures .0, obeyed d _ _ (s .pre .1 .command .read) 17 (ppe d) (m .match .keys11) (o .ppe .ensures .1) refl)
+    let e = obeyed d _ _ (s .pre .1 .command .read) 17 (ppe d) (m .match .keys11) (o .ppe .ensures .1) refl in
+    (o .ppe .ensures .0, e)
 
 returns-12 : tie.Need-returns-12
 unfolding choose
@@ -125,7 +136,8 @@ returns-12 c =
     let m = o .before .before in
     let s = m .before .before in
     let d = deviceOf (s .args .rec .now) in
-    (o .ppd .ensures .0, obeyed d _ _ (s .pre .1 .command .read) 6 (λ o. ppd d) (m .match .keys12) (o .ppd .ensures .1) refl)
+    let e = obeyed d _ _ (s .pre .1 .command .read) 6 (λ o. ppd d) (m .match .keys12) (o .ppd .ensures .1) refl in
+    (o .ppd .ensures .0, e)
 
 returns-13 : tie.Need-returns-13
 unfolding choose
@@ -134,14 +146,86 @@ returns-13 c =
     let m = o .before .before in
     let s = m .before .before in
     let d = deviceOf (s .args .rec .now) in
-    (o .ppu .ensures .0, obeyed d _ _ (s .pre .1 .command .read) 10 (λ o. ppu d) (m .match .keys13) (o .ppu .ensures .1) refl)
+    let e = obeyed d _ _ (s .pre .1 .command .read) 10 (λ o. ppu d) (m .match .keys13) (o .ppu .ensures .1) refl in
+    (o .ppu .ensures .0, e)
 
 returns-14 : tie.Need-returns-14
 returns-14 c =
     let s = c .before .before in (
       search needs,
-      passed-on (deviceOf (s .args .rec .now)) (s .args .frame) (s .args .message) (s .pre .1 .command .read)
-          (search needs, (search needs, (search needs, (search needs, (search needs, (search needs, (search needs, (search needs, (search needs, (search needs, (search needs, (search needs, (search needs, (search needs, (search needs, (search needs, (search needs, (search needs, (search needs, (search needs, (search needs, (search needs, (search needs, (search needs, (search needs, tt))))))))))))))))))))))))),
+      passed-on (deviceOf (s .args .rec .now)) (s .args .frame) (s .args .message) (s .pre .1 .command .read) (
+        search needs,
+        (
+          search needs,
+          (
+            search needs,
+            (
+              search needs,
+              (
+                search needs,
+                (
+                  search needs,
+                  (
+                    search needs,
+                    (
+                      search needs,
+                      (
+                        search needs,
+                        (
+                          search needs,
+                          (
+                            search needs,
+                            (
+                              search needs,
+                              (
+                                search needs,
+                                (
+                                  search needs,
+                                  (
+                                    search needs,
+                                    (
+                                      search needs,
+                                      (
+                                        search needs,
+                                        (
+                                          search needs,
+                                          (
+                                            search needs,
+                                            (
+                                              search needs,
+                                              (
+                                                search needs,
+                                                (
+                                                  search needs,
+                                                  (
+                                                    search needs,
+                                                    (
+                                                      search needs,
+                                                      (search needs, tt),
+                                                    ),
+                                                  ),
+                                                ),
+                                              ),
+                                            ),
+                                          ),
+                                        ),
+                                      ),
+                                    ),
+                                  ),
+                                ),
+                              ),
+                            ),
+                          ),
+                        ),
+                      ),
+                    ),
+                  ),
+                ),
+              ),
+            ),
+          ),
+        ),
+      ),
     )
 
 pub obey-spec : {M : Type 1} → statement M

@@ -3,10 +3,13 @@ use borrow.Author.Needs.{needs}
 use mathlib.Core.Path.{_≡_, refl, ap}
 use native.Mathlib.Omega.{arith}
 use Rattle.frame.specs.Decoding.{hasC1}
+use Rattle.frame.specs.declared.Message.{Message}
 use Rattle.device.specs.Choose.{choose}
-use Rattle.device.specs.Device.{sendData, deviceID, accessoryID, sendingData, sendingDeviceID, sendingAccessoryID}
+use Rattle.device.specs.Device.{sendData, deviceID, accessoryID, sendingData, sendingDeviceID}
+use Rattle.device.specs.Device.{sendingAccessoryID}
 use Rattle.device.specs.Ready.{requested, sst, nrd, aad}
 use Rattle.device.specs.Data.{idy}
+use Rattle.device.specs.Sent.{Sent}
 use Rattle.device.proofs.Classes.{aad-codes}
 use Rattle.record.specs.Record.{deviceOf}
 use Rattle.engine_simple.proofs.Ruled.{ruled, obeyed, passed-on, few-c1}
@@ -36,7 +39,8 @@ returns c =
     let s = m .before .before in
     let d = deviceOf (s .args .rec .now) in
     let f = s .args .frame in
-    (o .requested .ensures .0, ruled d f _ (s .pre .1 .read) 29 (λ x. requested d f sendData sendingData) (m .match .keys1) (o .requested .ensures .1) refl)
+    let rule : Message → Sent = λ x. requested d f sendData sendingData in
+    (o .requested .ensures .0, ruled d f _ (s .pre .1 .read) 29 rule (m .match .keys1) (o .requested .ensures .1) refl)
 
 returns-2 : tie.Need-returns-2
 unfolding choose
@@ -46,7 +50,8 @@ returns-2 c =
     let s = m .before .before in
     let d = deviceOf (s .args .rec .now) in
     let f = s .args .frame in
-    (o .sst .ensures .0, ruled d f _ (s .pre .1 .read) 30 (λ x. sst d f) (m .match .keys2) (o .sst .ensures .1) refl)
+    let rule : Message → Sent = λ x. sst d f in
+    (o .sst .ensures .0, ruled d f _ (s .pre .1 .read) 30 rule (m .match .keys2) (o .sst .ensures .1) refl)
 
 returns-3 : tie.Need-returns-3
 unfolding choose
@@ -56,7 +61,9 @@ returns-3 c =
     let s = m .before .before in
     let d = deviceOf (s .args .rec .now) in
     let f = s .args .frame in
-    (o .requested2 .ensures .0, ruled d f _ (s .pre .1 .read) 31 (λ x. requested d f deviceID sendingDeviceID) (m .match .keys3) (o .requested2 .ensures .1) refl)
+    let rule : Message → Sent = λ x. requested d f deviceID sendingDeviceID in
+    let e = ruled d f _ (s .pre .1 .read) 31 rule (m .match .keys3) (o .requested2 .ensures .1) refl in
+    (o .requested2 .ensures .0, e)
 
 returns-4 : tie.Need-returns-4
 unfolding choose
@@ -66,7 +73,9 @@ returns-4 c =
     let s = m .before .before in
     let d = deviceOf (s .args .rec .now) in
     let f = s .args .frame in
-    (o .requested3 .ensures .0, ruled d f _ (s .pre .1 .read) 32 (λ x. requested d f accessoryID sendingAccessoryID) (m .match .keys4) (o .requested3 .ensures .1) refl)
+    let rule : Message → Sent = λ x. requested d f accessoryID sendingAccessoryID in
+    let e = ruled d f _ (s .pre .1 .read) 32 rule (m .match .keys4) (o .requested3 .ensures .1) refl in
+    (o .requested3 .ensures .0, e)
 
 returns-5 : tie.Need-returns-5
 unfolding choose
@@ -86,7 +95,8 @@ returns-6 c =
     let s = m .before .before in
     let d = deviceOf (s .args .rec .now) in
     let f = s .args .frame in
-    (o .aad .ensures .0, ruled d f _ (s .pre .1 .read) 34 (λ x. aad d f (x .offset)) (m .match .keys6) (o .aad .ensures .1) refl)
+    let rule : Message → Sent = λ x. aad d f (x .offset) in
+    (o .aad .ensures .0, ruled d f _ (s .pre .1 .read) 34 rule (m .match .keys6) (o .aad .ensures .1) refl)
 
 returns-7 : tie.Need-returns-7
 unfolding choose
@@ -101,8 +111,79 @@ returns-8 : tie.Need-returns-8
 returns-8 c =
     let s = c .before .before in (
       search needs,
-      passed-on (deviceOf (s .args .rec .now)) (s .args .frame) (s .args .message) (s .pre .1 .read)
-          (search needs, (search needs, (search needs, (search needs, (search needs, (search needs, (search needs, (search needs, (search needs, (search needs, (search needs, (search needs, (search needs, (search needs, (search needs, (search needs, (search needs, (search needs, (search needs, (search needs, (search needs, (search needs, (search needs, (search needs, (search needs, tt))))))))))))))))))))))))),
+      passed-on (deviceOf (s .args .rec .now)) (s .args .frame) (s .args .message) (s .pre .1 .read) (
+        search needs,
+        (
+          search needs,
+          (
+            search needs,
+            (
+              search needs,
+              (
+                search needs,
+                (
+                  search needs,
+                  (
+                    search needs,
+                    (
+                      search needs,
+                      (
+                        search needs,
+                        (
+                          search needs,
+                          (
+                            search needs,
+                            (
+                              search needs,
+                              (
+                                search needs,
+                                (
+                                  search needs,
+                                  (
+                                    search needs,
+                                    (
+                                      search needs,
+                                      (
+                                        search needs,
+                                        (
+                                          search needs,
+                                          (
+                                            search needs,
+                                            (
+                                              search needs,
+                                              (
+                                                search needs,
+                                                (
+                                                  search needs,
+                                                  (
+                                                    search needs,
+                                                    (
+                                                      search needs,
+                                                      (search needs, tt),
+                                                    ),
+                                                  ),
+                                                ),
+                                              ),
+                                            ),
+                                          ),
+                                        ),
+                                      ),
+                                    ),
+                                  ),
+                                ),
+                              ),
+                            ),
+                          ),
+                        ),
+                      ),
+                    ),
+                  ),
+                ),
+              ),
+            ),
+          ),
+        ),
+      ),
     )
 
 pub ready-spec : {M : Type 1} → statement M
