@@ -13,8 +13,7 @@ ghost use lib.ListN.{length};
 ghost use Rattle.record.specs.Record.{recordSize, deviceOf};
 ghost use Rattle.record.specs.Sound.{unconfiguredFixed, configuredAble, simpleRight, unconfiguredSecond};
 ghost use Rattle.record.specs.Sound.{configuredBoth};
-ghost use Rattle.record.specs.Sound.{extendedRight};
-ghost use Rattle.address_sound.specs.Addresses.{addressRight};
+ghost use Rattle.record.specs.Sound.{extendedRight, addressRight};
 
 fn unconfigured_fixed(rec: &[u8]) -> bool
     requires { ⌜ length (now rec) ≡ recordSize ⌝ }

@@ -9,7 +9,8 @@ use borrow.Author.Tests.{ne-eqb, lt-leb}
 use Rattle.device.specs.Device.{autoAddress, extended, noAddress, received, has, fixedSecond, presentSecond}
 use Rattle.device.specs.declared.Device.{Device}
 use Rattle.record.specs.Sound.{only, configuredBoth}
-use Rattle.engine_addresses.specs.Addresses.{simpleAt, extendedAt, addressesRight}
+use Rattle.record.specs.Sound.{addressRight}
+use Rattle.engine_addresses.specs.Addresses.{simpleAt, extendedAt}
 
 -- configured, and nothing else
 single : (c : ℕ) (b n : Bool) → (c ≡ 0 → ⊥) → (eqb c 1 && (b && n)) ≡ (only (eqb c 1) b && (leb c 1 && n))
@@ -43,8 +44,8 @@ module _ (d : Device) where
   extended-assigned h = rw (ne-eqb (d .configured) 0 h) (simp and-assoc)
 
   -- the clauses of its variant
-  pub is-extended : (bitAnd (d .further) extended ≡ 0 → ⊥) → extendedAt d ≡ addressesRight d
+  pub is-extended : (bitAnd (d .further) extended ≡ 0 → ⊥) → extendedAt d ≡ addressRight d
   is-extended h = rw (ne-eqb (bitAnd (d .further) extended) 0 h)
 
-  pub is-simple : bitAnd (d .further) extended ≡ 0 → simpleAt d ≡ addressesRight d
+  pub is-simple : bitAnd (d .further) extended ≡ 0 → simpleAt d ≡ addressRight d
   is-simple h = rw h

@@ -14,7 +14,8 @@ use engine_table::SECOND_NOW;
 ghost use mathlib.Core.Path.{_≡_};
 ghost use lib.ListN.{length};
 ghost use Rattle.record.specs.Record.{recordSize, deviceOf};
-ghost use Rattle.engine_addresses.specs.Addresses.{simpleAt, extendedAt, addressesRight};
+ghost use Rattle.record.specs.Sound.{addressRight};
+ghost use Rattle.engine_addresses.specs.Addresses.{simpleAt, extendedAt};
 
 fn simple(rec: &[u8]) -> bool
     requires { ⌜ length (now rec) ≡ recordSize ⌝ }
@@ -50,7 +51,7 @@ fn extended(rec: &[u8]) -> bool
 
 pub fn addresses(rec: &[u8]) -> bool
     requires { ⌜ length (now rec) ≡ recordSize ⌝ }
-    ensures { λ r. ⌜ r ≡ addressesRight (deviceOf (now (rec .entry))) ⌝ }
+    ensures { λ r. ⌜ r ≡ addressRight (deviceOf (now (rec .entry))) ⌝ }
 {
     if rec[FURTHER] & EXTENDED != 0 {
         return extended(rec);

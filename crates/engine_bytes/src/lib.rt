@@ -80,7 +80,7 @@ pub fn count(rec: &mut [u8], frame: u16, sent: u8, replied: u8)
     rec[REPLY_SENT] = replied;
 }
 
-// The flags in front of both second addresses, each 0 or RECEIVED.
+// The flags in front of both second addresses: RECEIVED stands for the primary that came, 0 for none.
 pub fn flag(rec: &mut [u8], listen: u8, talk: u8)
     requires { ⌜ IsRecord (now rec) × (listen ≤ received) × (talk ≤ received) ⌝ }
     ensures { λ _. ⌜ IsRecord (now (rec .exit)) ⌝ }

@@ -36,8 +36,8 @@ use engine_table::UNADDRESS;
 ghost use mathlib.Core.Path.{_≡_};
 ghost use lib.ListN.{length};
 ghost use Rattle.record.specs.Record.{recordSize, deviceOf};
-ghost use Rattle.record.specs.Sound.{inRange, pollRight};
-ghost use Rattle.engine_clauses.specs.Clauses.{abilitiesRight, rolesRight};
+ghost use Rattle.record.specs.Sound.{inRange, pollRight, abilitiesAllowed};
+ghost use Rattle.engine_clauses.specs.Clauses.{rolesRight};
 
 pub fn ranges(rec: &[u8]) -> bool
     requires { ⌜ length (now rec) ≡ recordSize ⌝ }
@@ -61,7 +61,7 @@ pub fn ranges(rec: &[u8]) -> bool
 // 128 only with 4; 64 only with 1 and at least one of 2, 4, 8, 16.
 pub fn abilities(rec: &[u8]) -> bool
     requires { ⌜ length (now rec) ≡ recordSize ⌝ }
-    ensures { λ r. ⌜ r ≡ abilitiesRight (deviceOf (now (rec .entry))) ⌝ }
+    ensures { λ r. ⌜ r ≡ abilitiesAllowed (deviceOf (now (rec .entry))) ⌝ }
 {
     let able = rec[ABILITIES];
     let talks = (able & SEND_DATA != 0)

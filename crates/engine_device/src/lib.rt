@@ -33,8 +33,8 @@ fn passes(frame: u16) -> Passed
     }
 }
 
-// What an extended device does with a frame that was read: its own rules, or those of a simple one from where it
-// begins.
+// What an extended device does with a frame that was read: its own rules, or those of a simple one once the
+// flags are cleared where a command does so.
 fn extended(rec: &mut [u8], message: Message, frame: u16) -> Passed
     requires { ⌜ IsRecord (now rec) × (message ≡ decoded frame) ⌝ }
     ensures { λ _. ⌜ IsRecord (now (rec .exit)) ⌝ }

@@ -1,5 +1,5 @@
 // Extended addresses in a record (02, i): the record of an extended device after the frames that it has rules of its
-// own for, and where it begins with any other command.
+// own for, and after another command has cleared its flags.
 use engine_bytes::flag;
 use engine_bytes::place;
 use engine_bytes::store;
@@ -136,7 +136,7 @@ pub fn aau(rec: &mut [u8])
     place(rec, fixed, 0);
 }
 
-// A device that has a second address leaves AES alone.
+// A device that is configured or half assigned leaves AES alone.
 pub fn aes(rec: &mut [u8], frame: u16, address: u8) -> u16
     requires { ⌜ IsRecord (now rec) × (frame < 65535) × (address < received) ⌝ }
     ensures { λ _. ⌜ IsRecord (now (rec .exit)) ⌝ }

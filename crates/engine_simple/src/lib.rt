@@ -68,7 +68,7 @@ fn obey(rec: &mut [u8], message: Message, frame: u16)
     }
 }
 
-// What the device is told of goes on, and is reported if it listens.
+// A clear or a trigger: the frame goes on, and the event is reported if the device listens.
 fn to_listener(rec: &[u8], frame: u16, event: Handed) -> Passed
     requires { ⌜ IsRecord (now rec) ⌝ }
     ensures { λ r. ⌜ sent (now (rec .entry)) r ≡ toListener (deviceOf (now (rec .entry))) frame event ⌝ }

@@ -8,7 +8,7 @@ use borrow.Author.Tests.{eqb-true, ne-eqb, le-leb, lt-leb, lt-ltb, le-ltb}
 use Rattle.device.specs.Device.{sendData, status, deviceID, accessoryID, has}
 use Rattle.device.specs.declared.Device.{Device}
 use Rattle.record.specs.Sound.{only, addressedAble, dataAble, lastBelow}
-use Rattle.engine_talker.specs.Talker.{talkerRight}
+use Rattle.record.specs.Sound.{talkerRight}
 
 -- a last frame of zero is below any
 zero-below : (n z l : Bool) → (z ≡ true → l ≡ true) → ((n && z) && l) ≡ (n && z)

@@ -23,7 +23,7 @@ ghost use mathlib.Core.Path.{_≡_};
 ghost use Prim.Native.Nat.{_≤_};
 ghost use lib.ListN.{length, getD};
 ghost use Rattle.record.specs.Record.{recordSize, deviceOf};
-ghost use Rattle.engine_talker.specs.Talker.{talkerRight};
+ghost use Rattle.record.specs.Sound.{talkerRight};
 
 // The last frame sent.
 fn last(rec: &[u8]) -> u16

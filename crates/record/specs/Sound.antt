@@ -138,7 +138,23 @@ pollRight d =
     (leb (d .pollstatus) 1 &&
     only (not (hasFurther d parallelPoll)) (eqb (d .assigned) unassigned && eqb (d .pollstatus) 0))
 
--- a device is sound: all of these
+-- ---- groups of these clauses that are judged together
+
+-- on abilities
+abbrev pub abilitiesAllowed : Device → Bool
+abilitiesAllowed d = serviceWithStatus d && unaddressWithBoth d
+
+-- on addresses
+abbrev pub addressRight : Device → Bool
+addressRight d = unconfiguredFixed d && variantRight d
+
+-- on a talker and its data
+abbrev pub talkerRight : Device → Bool
+talkerRight d =
+    sendingAble d &&
+    (addressedAble d && (dataAble d && (sentWithin d && (repliedRight d && (quietOutside d && lastBelow d)))))
+
+-- ---- a device is sound: all of the clauses
 unfoldable pub soundDevice : Device → Bool
 soundDevice d =
     inRange d &&

@@ -15,8 +15,8 @@ use Rattle.record.specs.Sound.{variantRight, listenerAble, serviceAble, sending
 use Rattle.record.specs.Sound.{sentWithin, repliedRight, quietOutside, lastBelow, pollRight, soundDevice, soundRecord}
 use Rattle.record.specs.Sound.{allowed}
 use Rattle.record.proofs.Both.{never}
-use Rattle.talker_sound.specs.Talker.{talkerRight}
-use Rattle.sound.specs.Groups.{abilitiesAllowed, ableAll, variantAllowed}
+use Rattle.record.specs.Sound.{abilitiesAllowed, talkerRight}
+use Rattle.sound.specs.Groups.{ableAll, variantAllowed}
 
 -- the clauses on the talker, t, stand between what a device is able to do and be and the poll's, p
 regrouped : (i z s u f c l v t p : Bool) →

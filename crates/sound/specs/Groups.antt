@@ -4,11 +4,7 @@ use mathlib.Core.Bool.{Bool, not, cond, _&&_}
 use lib.Dec.{eqb, leb}
 use Rattle.device.specs.Device.{autoAddress, extended, noAddress, has, hasFurther}
 use Rattle.device.specs.declared.Device.{Device}
-use Rattle.record.specs.Sound.{serviceWithStatus, unaddressWithBoth, listenerAble, serviceAble}
-use Rattle.address_sound.specs.Addresses.{addressRight}
-
-abbrev pub abilitiesAllowed : Device → Bool
-abilitiesAllowed d = serviceWithStatus d && unaddressWithBoth d
+use Rattle.record.specs.Sound.{listenerAble, serviceAble, abilitiesAllowed, addressRight}
 
 abbrev pub ableAll : Device → Bool
 ableAll d = abilitiesAllowed d && (addressRight d && (listenerAble d && serviceAble d))

@@ -30,7 +30,8 @@ ghost use Rattle.device.specs.declared.Device.{Device};
 ghost use Rattle.record.specs.Record.{recordSize, deviceOf};
 ghost use Rattle.record.specs.Sound.{inRange, serviceWithStatus, unaddressWithBoth, listenerAble, serviceAble};
 ghost use Rattle.record.specs.Sound.{pollRight, soundRecord, allowed};
-ghost use Rattle.sound.specs.Groups.{abilitiesAllowed, ableAll, variantAllowed};
+ghost use Rattle.record.specs.Sound.{abilitiesAllowed};
+ghost use Rattle.sound.specs.Groups.{ableAll, variantAllowed};
 
 fn in_range(rec: &[u8]) -> bool
     requires { ⌜ length (now rec) ≡ recordSize ⌝ }

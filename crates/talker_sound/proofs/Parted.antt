@@ -6,7 +6,8 @@ use Rattle.device.specs.Device.{sendingData}
 use Rattle.device.specs.declared.Device.{Device}
 use Rattle.record.specs.Sound.{only, sendingAble, addressedAble, dataAble, repliedRight, quietOutside, lastBelow}
 use Rattle.record.proofs.Both.{left, right, both-true}
-use Rattle.talker_sound.specs.Talker.{talkerRight, dataRight, stateRight}
+use Rattle.record.specs.Sound.{talkerRight}
+use Rattle.talker_sound.specs.Talker.{dataRight, stateRight}
 
 -- two tests are equal where each follows from the other
 same : (a b : Bool) → (a ≡ true → b ≡ true) → (b ≡ true → a ≡ true) → a ≡ b

@@ -6,13 +6,7 @@ use Rattle.device.specs.declared.Device.{Device}
 use Rattle.record.specs.Sound.{only, sendingAble, addressedAble, dataAble, sentWithin, repliedRight, quietOutside}
 use Rattle.record.specs.Sound.{lastBelow}
 
--- the talker's clauses, as 01 has them,
-abbrev pub talkerRight : Device → Bool
-talkerRight d =
-    sendingAble d &&
-    (addressedAble d && (dataAble d && (sentWithin d && (repliedRight d && (quietOutside d && lastBelow d)))))
-
--- of which these ask the same in every state,
+-- of `talkerRight` these ask the same in every state,
 abbrev pub dataRight : Device → Bool
 dataRight d = dataAble d && (leb (d .sent) (d .loadlength) && lastBelow d)
 

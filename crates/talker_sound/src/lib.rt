@@ -15,7 +15,8 @@ ghost use mathlib.Core.Bool.{_&&_};
 ghost use lib.Dec.{eqb};
 ghost use lib.ListN.{length};
 ghost use Rattle.record.specs.Record.{recordSize, deviceOf};
-ghost use Rattle.talker_sound.specs.Talker.{dataRight, stateRight, talkerRight};
+ghost use Rattle.record.specs.Sound.{talkerRight};
+ghost use Rattle.talker_sound.specs.Talker.{dataRight, stateRight};
 
 // Nothing of a reply is under way.
 fn quiet(rec: &[u8]) -> bool

@@ -3,7 +3,7 @@ use mathlib.Core.Path.{_≡_, refl}
 use borrow.Author.Needs.{needs}
 use Rattle.record.specs.Record.{deviceOf}
 use Rattle.record.proofs.Both.{chain}
-use Rattle.sound.specs.Groups.{abilitiesAllowed}
+use Rattle.record.specs.Sound.{abilitiesAllowed}
 use Rattle.sound.proofs.able.Statement.{statement}
 use Rattle.sound.proofs.able.Tie as tie
 

@@ -1,2 +1,0 @@
--- The clauses of soundness on addresses, as the code tests them.
-pub mod Addresses

@@ -1,2 +1,0 @@
--- The clauses on a talker, as the plain engine tests them.
-pub mod Talker
