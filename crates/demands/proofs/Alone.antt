@@ -12,12 +12,14 @@ use Rattle.device.specs.declared.Device.{Device}
 use Rattle.device.specs.declared.Handed.{Handed}
 use Rattle.device.specs.declared.Handed.the-variants as handed
 use Rattle.area.specs.Parts.{join}
+use Rattle.calls.specs.Calls.{hopAnswer}
+use Rattle.calls.specs.declared.HopAnswer.{HopAnswer}
 use Rattle.order.specs.Line as line
 use Rattle.order.specs.History as told
 use Rattle.order.specs.RightRound.{past as hopsPast}
 use Rattle.order.proofs.Idle.{onto, push-onto, idle-empty}
 use Rattle.order.proofs.Moves.{Moves, no-move, by-hop, by-take, one-more, moves-run, shift, shiftE, in-front, past-next}
-use Rattle.walk.specs.Walk.{past, outOf, toldOf}
+use Rattle.walk.specs.Walk.{past, outOf, fourBytes, toldOf}
 use Rattle.demands.specs.Histories.{Got, got, reported, handedOver, papers}
 
 -- the devices that a walk leaves
@@ -93,14 +95,18 @@ toldOn (line.hopped i h) = toldGot h
 toldOn (line.was-taken f) = []
 toldOn (line.called i c) = []
 
-got-told : (h : Handed) → toldGot (handedOver h) ≡ toldOf h
-got-told handed.Nothing = refl
-got-told (handed.Byte b e) = refl
-got-told handed.Clear = refl
-got-told handed.Trigger = refl
+-- the four bytes of the hop's answer are those
+abbrev pub ToldAs : HopAnswer → Option Got → Type 0
+ToldAs r h = (r .refusal ≡ 0) × (fourBytes r ≡ toldGot h)
+
+pub told-as : (f : ℕ) (h : Handed) → ToldAs (hopAnswer f h) (handedOver h)
+told-as f handed.Nothing = (refl, refl)
+told-as f (handed.Byte b e) = (refl, refl)
+told-as f handed.Clear = (refl, refl)
+told-as f handed.Trigger = (refl, refl)
 
 pub told-on : (i : ℕ) (ds : List Device) (f : ℕ) →
     told.each toldOn (happens i ds f) ≡ join (map (λ (s : Sent). toldOf (s .handed)) (past ds f))
 unfolding past join
 told-on i [] f = refl
-told-on i (d ∷ ds) f = rw (got-told (takes d f .handed), told-on (suc i) ds (takes d f .frame))
+told-on i (d ∷ ds) f = rw (← (told-as 0 (takes d f .handed)) .1, told-on (suc i) ds (takes d f .frame))

@@ -28,8 +28,8 @@ use Rattle.order.specs.Through.{Every, callsOf}
 use Rattle.order.proofs.Idle.{Empty, idle-empty}
 use Rattle.order.proofs.Streams.{Ran, stays, hopping, acting, Flows, at-tail, at-cell, Steps, run-ok, steps-flows}
 use Rattle.demands.specs.Calls.{calledBy}
-use Rattle.demands.specs.Histories.{Step, acceptedBy, papers, lineOf, areaLeft, framesPut, framesTaken, turnsOf}
-use Rattle.demands.specs.Demands.{AllEmpty, afterCalls, answering, answeringAll, bitsOf, Polls, PolledRound}
+use Rattle.demands.specs.Histories.{Step, acceptedBy, papers, lineOf, areaLeft, framesPut, turnsOf}
+use Rattle.demands.specs.Demands.{AllEmpty, answering, answeringAll, bitsOf, Polls, PolledRound}
 use Rattle.demands.specs.Demands.{AsTheyStood, ParallelPoll}
 use Rattle.demands.proofs.Bridge.{toLoop}
 use Rattle.demands.proofs.Rendered.{R, puts-are, taken-are, turns-are}

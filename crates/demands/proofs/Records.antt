@@ -2,29 +2,30 @@
 -- its links; and where these are zeros, as a put is.
 use Prim.Native.Nat.{ℕ, zero, suc, _+_, _*_, _≤_, _<_}
 use mathlib.Core.Path.{_≡_, refl, sym, ap, _∙_}
-use mathlib.Core.Bool.{true, cond, and-true}
-use mathlib.Core.List.{List, [], _∷_}
+use mathlib.Core.Bool.{Bool, true, false, cond, and-true}
+use mathlib.Core.List.{List, [], _∷_, map}
 use native.Mathlib.Omega.{arith}
 use native.Mathlib.Nat.{mul-suc, add-comm}
 use lib.Dec.{ltb}
 use lib.ListN.{length, getD, take, drop}
 use lib.Seq.{take-take, getD-take, getD-drop, length-take-le}
-use borrow.Author.Tests.{lt-ltb, eq-eqb}
+use borrow.Author.Tests.{lt-ltb, ltb-true, eq-eqb}
 use Rattle.frame.specs.Messages.{frames}
 use Rattle.device.specs.PowerOn.{bytesFrom}
 use Rattle.record.specs.Record.{recordSize}
 use Rattle.record.specs.Sound.{soundRecord}
+use Rattle.record.specs.Fits.{Bytes}
 use Rattle.record.proofs.Both.{both-true, left, right}
 use Rattle.area.specs.Sizes.{headerSize, linkSize, mostDevices, isCount, recordAt, areaSize}
 use Rattle.area.specs.Parts.{parts, all}
 use Rattle.area.specs.Link.{framesOf, soundSlot, soundLink}
-use Rattle.area.specs.Loop.{countIn, recordsIn, linksIn, loopOf, shaped, shapedWith, sound, link}
+use Rattle.area.specs.Loop.{countIn, recordsIn, linksIn, loopOf, shaped, shapedWith, sound, judgeWith}
 use Rattle.area.proofs.Areas.{judge-zero, is-shaped}
 use Rattle.saved.proofs.Runs.{part-of}
 use Rattle.walk.specs.Walk.{toldSize, devicesIn, fitsWith, soundRecords, refusalWith}
 use Rattle.demands.specs.Calls.{Byte, numbers, put, onArea, walk, pil, refusalIn}
 use Rattle.demands.specs.Conditions.{due}
-use Rattle.demands.specs.Demands.{Judged, recordsOf, NoFrames}
+use Rattle.demands.specs.Demands.{Judged, AllEmpty, recordsOf, ZerosBehind}
 use Rattle.demands.proofs.First.{demand-1}
 use Rattle.demands.proofs.Lengths.{shape-is}
 use Rattle.demands.proofs.Refusals.{turned-lt}
@@ -113,24 +114,51 @@ blank-links (suc n) b h =
     both-true (blank-link (take linkSize b) (blank-take linkSize b h))
     (blank-links n (drop linkSize b) (λ i. rw getD-drop (h (linkSize + i))))
 
-module _ (a : List ℕ) (n : NoFrames a) where
+blank-empty : (n : ℕ) (b : List ℕ) (j : ℕ) → Blank b → getD (map framesOf (parts linkSize n b)) j [] ≡ []
+unfolding parts framesOf
+blank-empty zero b j h = refl
+blank-empty (suc n) b zero h = rw (blank-take linkSize b h 0)
+blank-empty (suc n) b (suc j) h = blank-empty n (drop linkSize b) j (λ i. rw getD-drop (h (linkSize + i)))
+
+none-holds : (s u p : Bool) → _≡_ {A = ℕ} (cond s (cond u (cond p 0 4) 2) 1) 0 →
+    (s ≡ true) × ((u ≡ true) × (p ≡ true))
+none-holds true true true e = (refl, (refl, refl))
+none-holds true true false e = absurd (omega arith)
+none-holds true false p e = absurd (omega arith)
+none-holds false u p e = absurd (omega arith)
+
+module _ (a : List ℕ) (n : ZerosBehind a) where
   behind : Blank (drop (recordAt (countIn a)) a)
   behind i = rw getD-drop (n .zeros-behind (recordAt (countIn a) + i) (omega arith))
 
-  first-empty : link (loopOf a) 0 ≡ []
-  unfolding loopOf parts framesOf
-  first-empty = rw (blank-take linkSize (drop (recordAt (countIn a)) a) behind 0)
+  pub all-empty : AllEmpty a
+  unfolding loopOf
+  all-empty j = blank-empty (suc (countIn a)) (drop (recordAt (countIn a)) a) j behind
 
   -- a put then goes by the area's refusal and the frame alone
   put-refusal : (f : ℕ) →
       due (onArea (put f)) a ≡ cond (shaped a) (cond (sound a) (cond (ltb f frames) 0 4) 2) 1
   put-refusal f =
-      rw (first-empty, shape-is a, turned-lt f frames 4 0) (sym (rows (shaped a) (sound a) (cond (ltb f frames) 0 4)))
+      rw (all-empty 0, shape-is a, turned-lt f frames 4 0) (sym (rows (shaped a) (sound a) (cond (ltb f frames) 0 4)))
 
-  pub same-refusals : (f : ℕ) (t : List Byte) → length (numbers t) ≡ toldSize * countIn a →
-      refusalIn (pil (walk f t) (recordsOf a) .answer) ≡ refusalIn (pil (onArea (put f)) a .answer)
-  same-refusals f t fit =
+  abbrev walkRefusal : ℕ → List Byte → ℕ
+  walkRefusal f t = refusalIn (pil (walk f t) (recordsOf a) .answer)
+
+  walk-refusal : (f : ℕ) (t : List Byte) → length (numbers t) ≡ toldSize * countIn a →
+      walkRefusal f t ≡ cond (shaped a) (cond (sound a) (cond (ltb f frames) 0 4) 2) 1
+  walk-refusal f t fit =
       demand-1 .by-table (walk f t) (recordsOf a)
       ∙ sym (refusal-due f t (recordsOf a))
       ∙ cut-refusal a f (numbers t) (n .long) fit (blank-links (suc (countIn a)) _ behind)
-      ∙ sym (demand-1 .by-table (onArea (put f)) a ∙ put-refusal f)
+
+  pub same-refusals : (f : ℕ) (t : List Byte) → length (numbers t) ≡ toldSize * countIn a →
+      walkRefusal f t ≡ refusalIn (pil (onArea (put f)) a .answer)
+  same-refusals f t fit = walk-refusal f t fit ∙ sym (demand-1 .by-table (onArea (put f)) a ∙ put-refusal f)
+
+  -- where neither is refused, the area is not, and the frame is one
+  pub all-passed : (f : ℕ) (t : List Byte) → Bytes a → length (numbers t) ≡ toldSize * countIn a →
+      walkRefusal f t ≡ 0 → Judged a × (f < frames)
+  unfolding judgeWith
+  all-passed f t bytes fit e =
+      let p = none-holds (shaped a) (sound a) (ltb f frames) (sym (walk-refusal f t fit) ∙ e) in
+      (record { bytes = bytes; sound = rw (p .0, p .1 .0) }, ltb-true f frames (p .1 .1))

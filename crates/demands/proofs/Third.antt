@@ -14,7 +14,7 @@ use Rattle.area.specs.Loop.{Loop, countIn, loopOf, areaOf, link, Sound-loop}
 use Rattle.area.proofs.Parts.{length-parts}
 use Rattle.area.proofs.Laws.{loop-back}
 use Rattle.calls.specs.Outcome.{After}
-use Rattle.calls.specs.SetUp.{itemWidth, itemsOf, poweredOn}
+use Rattle.calls.specs.SetUp.{itemsOf, poweredOn}
 use Rattle.calls.proofs.Powered.{set-up-sound}
 use Rattle.saved.specs.Calls.{openOf}
 use Rattle.saved.proofs.Laws.{opened-bytes}

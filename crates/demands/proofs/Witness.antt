@@ -7,15 +7,13 @@ use mathlib.Core.Option.{Option, none, some, Option·map}
 use mathlib.Core.List.{List, [], _∷_, _++_, map, map-map, append-assoc, append-nil}
 use native.Mathlib.Omega.{arith}
 use lib.Dec.{ltb}
-use lib.ListN.{length, take as first, length-map}
-use lib.Seq.{take-at}
+use lib.ListN.{length, take as first, drop, replicate, length-map}
+use lib.Seq.{take-at, drop-at}
 use borrow.Author.Tests.{lt-ltb, ne-eqb}
 use Rattle.frame.specs.Messages.{frames}
 use Rattle.device.specs.Take.{takes}
 use Rattle.device.specs.Sent.{Sent}
 use Rattle.device.specs.declared.Device.{Device}
-use Rattle.device.specs.declared.Handed.{Handed}
-use Rattle.device.specs.declared.Handed.the-variants as handed
 use Rattle.record.specs.Record.{recordSize, recordOf}
 use Rattle.record.proofs.Laws.{record-wide}
 use Rattle.area.specs.Sizes.{headerSize, recordAt}
@@ -25,7 +23,7 @@ use Rattle.area.specs.Loop.{Loop, countIn, size, loopOf, areaOf, headerOf, link
 use Rattle.area.proofs.Each.{each-same}
 use Rattle.area.proofs.Parts.{length-join}
 use Rattle.area.proofs.Laws.{loop-back}
-use Rattle.calls.specs.Calls.{refusal, putIn, noTake, takeIn, noHop, hopAnswer, hopIn}
+use Rattle.calls.specs.Calls.{refusal, putIn, noTake, takeIn, noHop, hopIn}
 use Rattle.calls.specs.declared.HopAnswer.{HopAnswer}
 use Rattle.calls.specs.Outcome.{Outcome, refuse, done, after}
 use Rattle.calls.proofs.Lined as lined
@@ -39,7 +37,7 @@ use Rattle.order.proofs.Idle.{idle-devices, idle-states}
 use Rattle.walk.specs.Walk.{past, outOf, toldSize, toldOf, devicesIn}
 use Rattle.demands.specs.Calls.{Byte, numbers, calledBy, Action, put, hop, take, walk, Answer, plain, hopped}
 use Rattle.demands.specs.Calls.{taken, walked, pil}
-use Rattle.demands.specs.Histories.{Step, call, Got, if, fourBytes, toldBy, ofCall, areaLeft, framesTaken}
+use Rattle.demands.specs.Histories.{Step, call, Got, if, toldBy, ofCall, areaLeft, framesTaken}
 use Rattle.demands.specs.Histories.{allTold, stepsRefused, handedOver, acceptedBy, papers, lineOf}
 use Rattle.demands.specs.Demands.{Judged, AllEmpty, recordsOf, hopsFrom, sentRound, Witnessed, PlainEngine}
 use Rattle.demands.proofs.Bridge.{toLoop, Alike}
@@ -48,20 +46,11 @@ use Rattle.demands.proofs.Rendered.{R, Fair, area-is, good-is, taken-ar
 use Rattle.demands.proofs.Lined.{devices-are as line-devices, line-judged, loop-is, line-good, line-area}
 use Rattle.demands.proofs.Third.{idle-loop, is-idle}
 use Rattle.demands.proofs.Walks.{walk-done}
-use Rattle.demands.proofs.Records.{devices-cut, judged-refusal, same-refusals}
+use Rattle.demands.proofs.Records.{devices-cut, judged-refusal, all-empty, same-refusals, all-passed}
 use Rattle.demands.proofs.Alone.{left, happens, round, put-run, none-refused, taken-out, toldGot, toldOn}
-use Rattle.demands.proofs.Alone.{told-on}
+use Rattle.demands.proofs.Alone.{ToldAs, told-as, told-on}
 
 -- ---- a hop's answer tells what its device got, and those of put and take tell nothing
-
-abbrev ToldAs : HopAnswer → Option Got → Type 0
-ToldAs r h = (r .refusal ≡ 0) × (fourBytes r ≡ toldGot h)
-
-told-as : (f : ℕ) (h : Handed) → ToldAs (hopAnswer f h) (handedOver h)
-told-as f handed.Nothing = (refl, refl)
-told-as f (handed.Byte b e) = (refl, refl)
-told-as f handed.Clear = (refl, refl)
-told-as f handed.Trigger = (refl, refl)
 
 hop-told : (i : ℕ) → Tells R (ofCall [] toldBy) toldOn (call (hop i))
 hop-told i l good = go (hopIn i (toLoop l)) (line.hopAt l i)
@@ -112,10 +101,24 @@ records-written l =
     (take-at (written (l .devices)) (join (map linkOf (l .links))) (recordAt (size l))
     (rw (length-join recordOf recordSize record-wide (l .devices)) (omega arith)))
 
+links-written : (l : Loop) → drop (recordAt (size l)) (areaOf l) ≡ join (map linkOf (l .links))
+unfolding areaOf
+links-written l =
+    rw (← (append-assoc (headerOf (size l)) (join (map recordOf (l .devices))) (join (map linkOf (l .links)))))
+    (drop-at (written (l .devices)) (join (map linkOf (l .links))) (recordAt (size l))
+    (rw (length-join recordOf recordSize record-wide (l .devices)) (omega arith)))
+
 past-long : (ds : List Device) (f : ℕ) → length (past ds f) ≡ length ds
 unfolding past
 past-long [] f = refl
 past-long (d ∷ ds) f = ap suc (past-long ds (takes d f .frame))
+
+left-long : (ds : List Device) (f : ℕ) → length (left ds f) ≡ length ds
+left-long ds f = length-map (past ds f) (λ (s : Sent). s .device) ∙ past-long ds f
+
+links-idle : (ds : List Device) →
+    drop (recordAt (length ds)) (areaOf (toLoop (line.idle ds))) ≡ join (map linkOf (replicate (suc (length ds)) []))
+links-idle ds = rw (idle-loop ds) (links-written (record { devices = ds; links = replicate (suc (length ds)) [] }))
 
 written-after : (ds : List Device) (f : ℕ) →
     first headerSize (written ds) ++ join (map (λ (s : Sent). recordOf (s .device)) (past ds f)) ≡
@@ -181,6 +184,14 @@ module _ (ds : List Device) (good : Sound-loop (toLoop (line.idle ds))) (f : ℕ
       (put-told f, after-hops (Tells R (ofCall [] toldBy) toldOn) 0 (countIn x) hop-told take-told)
       ∙ rw happened (told-on 0 ds f)
 
+  links-stay : drop (recordAt (countIn x)) (areaLeft x ss) ≡ drop (recordAt (countIn x)) x
+  links-stay =
+      ap (λ (b : List ℕ). drop (recordAt (countIn x)) b) area-left
+      ∙ ap (λ (k : ℕ). drop (recordAt k) (areaOf end)) (many ∙ sym (left-long ds f))
+      ∙ links-idle (left ds f)
+      ∙ ap (λ (k : ℕ). join (map linkOf (replicate (suc k) []))) (left-long ds f)
+      ∙ sym (ap (λ (k : ℕ). drop (recordAt k) x) many ∙ links-idle ds)
+
   empty-again : AllEmpty (areaLeft x ss)
   empty-again j =
       ap (λ (b : List ℕ). link (loopOf b) j) area-left
@@ -213,6 +224,7 @@ module _ (ds : List Device) (good : Sound-loop (toLoop (line.idle ds))) (f : ℕ
         out = outOf ds f;
         accepted = accepted;
         one-taken = one-taken;
+        links-stay = links-stay;
         empty-again = empty-again;
         same = walks-same t fit;
       }
@@ -232,11 +244,15 @@ module _ (a : List ℕ) (j : Judged a) (empty : AllEmpty a) where
   idle-good : Sound-loop (toLoop (line.idle states))
   idle-good = rw idle-line at (line-good a j)
 
+  area-witnessed : (f : ℕ) (t : List Byte) → f < frames → length (numbers t) ≡ toldSize * countIn a → Witnessed a f t
+  area-witnessed f t small fit = rw idle-area at (round-witnessed states idle-good f small t (rw idle-area fit))
+
 pub plain-engine : PlainEngine
 plain-engine =
     record {
-      witnessed = λ a f t j empty small fit.
-          let e = idle-area a j empty in
-          rw e at (round-witnessed (states a j empty) (idle-good a j empty) f small t (rw e fit));
+      witnessed = λ a f t j empty. area-witnessed a j empty f t;
       same-refusals = λ a f t n. same-refusals a n f t;
+      where-accepted = λ a f t bytes n fit e.
+          let p = all-passed a n f t bytes fit e in
+          area-witnessed a (p .0) (all-empty a n) f t (p .1) fit;
     }

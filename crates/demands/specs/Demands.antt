@@ -11,7 +11,7 @@ use Prim.Native.Nat.{ℕ, zero, suc, _+_, _*_, _≤_, _<_}
 use mathlib.Core.Path.{_≡_}
 use mathlib.Core.List.{List, [], _∷_, _++_, map, tail}
 use lib.Bits.{bitOr}
-use lib.ListN.{length, getD, take as first}
+use lib.ListN.{length, getD, take as first, drop}
 use Rattle.frame.specs.Messages.{frames}
 use Rattle.frame.specs.Classes.{IsIdentify}
 use Rattle.frame.specs.Decoding.{message, decoded as decoding, frameOf}
@@ -481,19 +481,21 @@ sentRound a f = call (put f) ∷ hopsFrom 0 (countIn a) ++ (call take ∷ [])
 
 -- A frame sent right round the loop, and the same frame walked past its records, whatever told was before:
 pub record Witnessed (a : List ℕ) (f : ℕ) (t : List Byte) : Type 0 where
-  -- put, hops and take are not refused, so none gives 6; one frame is taken, and all links are empty again.
+  -- put, hops and take are not refused, so none gives 6; one frame is taken,
   pub out : ℕ
   pub accepted : stepsRefused a (sentRound a f) ≡ 0
   pub one-taken : framesTaken a (sentRound a f) ≡ out ∷ []
+  -- and the bytes behind the records are what they were: all links are empty again.
+  pub links-stay : drop (recordAt (countIn a)) (areaLeft a (sentRound a f)) ≡ drop (recordAt (countIn a)) a
   pub empty-again : AllEmpty (areaLeft a (sentRound a f))
   -- Nor is the walk: it answers that frame, tells what the hops answered, and leaves the records that they left.
   pub same : pil (walk f t) (recordsOf a) ≡ after
       (walked (record { frame = out; refusal = 0 }) (allTold a (sentRound a f)))
       (recordsOf (areaLeft a (sentRound a f)))
 
--- Bytes of the length of an area, and zeros behind the records, so that no link holds a frame. Header and records may
--- be anything.
-pub record NoFrames (a : List ℕ) : Type 0 where
+-- Bytes of an area's length, all zero behind the records, so that its links are empty; header and records may be
+-- anything.
+pub record ZerosBehind (a : List ℕ) : Type 0 where
   pub long : length a ≡ areaSize (countIn a)
   pub zeros-behind : (i : ℕ) → recordAt (countIn a) ≤ i → getD a i 0 ≡ 0
 
@@ -501,7 +503,12 @@ pub record PlainEngine : Type 0 where
   -- From any area that has no refusal and whose links are empty, every frame is witnessed.
   pub witnessed : (a : List ℕ) (f : ℕ) (t : List Byte) → Judged a → AllEmpty a → f < frames →
       length (numbers t) ≡ toldSize * countIn a → Witnessed a f t
-  -- On any bytes with empty links, and any number as the frame, the walk is refused as the put is, or neither is.
-  pub same-refusals : (a : List ℕ) (f : ℕ) (t : List Byte) → NoFrames a →
+  -- On any bytes of an area's length with zeros behind the records, and any number as the frame, the walk is refused as
+  -- the put is, or neither is.
+  pub same-refusals : (a : List ℕ) (f : ℕ) (t : List Byte) → ZerosBehind a →
       length (numbers t) ≡ toldSize * countIn a →
       refusalIn (pil (walk f t) (recordsOf a) .answer) ≡ refusalIn (pil (onArea (put f)) a .answer)
+  -- Where the walk is accepted the put, the hops and the take are too, with the same results.
+  pub where-accepted : (a : List ℕ) (f : ℕ) (t : List Byte) → Bytes a → ZerosBehind a →
+      length (numbers t) ≡ toldSize * countIn a → refusalIn (pil (walk f t) (recordsOf a) .answer) ≡ 0 →
+      Witnessed a f t

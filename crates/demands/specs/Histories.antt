@@ -19,6 +19,7 @@ use Rattle.calls.specs.Calls.{clear, trigger}
 use Rattle.calls.specs.declared.HopAnswer.{HopAnswer}
 use Rattle.calls.specs.declared.DrainAnswer.{DrainAnswer}
 use Rattle.saved.specs.Calls.{saveOf, openOf}
+use Rattle.walk.specs.Walk.{fourBytes}
 use Rattle.order.specs.Line as line
 use Rattle.order.specs.Flat.{lineUp}
 use Rattle.order.specs.History.{Turn, hops, does, turns}
@@ -133,11 +134,7 @@ hopsBy c (encoded r) = 0
 hopsBy c (polled r) = 0
 hopsBy c (walked r t) = 0
 
--- a hop's answer in the four bytes of a walk
-abbrev pub fourBytes : HopAnswer → List ℕ
-fourBytes r = r .handed ∷ r .byte ∷ r .end ∷ r .event ∷ []
-
--- what a hop that was not refused told
+-- what a hop that was not refused told, in the four bytes of a walk
 abbrev pub toldBy : Action → Answer → List ℕ
 toldBy c (plain k) = []
 toldBy c (hopped r) = cond (eqb (r .refusal) 0) (fourBytes r) []

@@ -1,13 +1,13 @@
 -- A walk under way: what the devices before i left and were handed stands in the bytes, and what those from i on will
 -- do with the frame is still to come.
-use Prim.Native.Nat.{ℕ, zero, suc, _+_, _*_, _≤_, _<_}
+use Prim.Native.Nat.{ℕ, suc, _+_, _*_, _≤_, _<_}
 use mathlib.Core.Path.{_≡_, refl, sym, ap, _∙_}
 use mathlib.Core.List.{List, [], _∷_, _++_, map, append-assoc, append-nil}
-use mathlib.Core.Bool.{Bool, true, _&&_}
-use native.Mathlib.Nat.{add-sub-cancel-left, mul-zero}
+use mathlib.Core.Bool.{true}
+use native.Mathlib.Nat.{add-sub-cancel-left}
 use native.Mathlib.Numerals.{add-one}
 use native.Mathlib.Omega.{arith}
-use lib.ListN.{length, take, drop, getD, length-map, length-drop, length-append, length-take, drop-of-length-le}
+use lib.ListN.{length, take, drop, getD, length-map, length-drop, drop-of-length-le}
 use lib.Seq.{drop-cons, take-at, drop-at, take-all, getD-drop}
 use Rattle.device.specs.Take.{takes}
 use Rattle.device.specs.Sent.{Sent}

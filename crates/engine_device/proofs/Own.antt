@@ -1,7 +1,7 @@
 -- The rule of a frame that was read, at an extended device: one of its own, or the simple one's from where it begins.
 use Prim.Native.Nat.{ℕ}
 use mathlib.Core.Path.{_≡_, refl, sym, ap, _∙_}
-use mathlib.Core.Bool.{true, false, cond}
+use mathlib.Core.Bool.{false}
 use mathlib.Core.List.{List, [], _∷_}
 use borrow.Author.Tests.{ne-eqb}
 use Rattle.frame.specs.Decoding.{decoded}

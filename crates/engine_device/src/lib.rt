@@ -15,7 +15,6 @@ use engine_table::FURTHER;
 use frame::Message;
 ghost use mathlib.Core.Path.{_≡_};
 ghost use Rattle.frame.specs.Decoding.{decoded};
-ghost use Rattle.device.specs.Reply.{sends};
 ghost use Rattle.device.specs.Take.{takesExtended, takes};
 ghost use Rattle.record.specs.Record.{deviceOf};
 ghost use Rattle.record.specs.Written.{IsRecord};

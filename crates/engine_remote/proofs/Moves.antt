@@ -1,13 +1,12 @@
 -- The bits move the four states as the definition's pairs do, by a computed test over the four; any other number stays.
 use Prim.Native.Nat.{ℕ, _≤_, _<_}
-use mathlib.Core.Path.{_≡_, refl, sym, ap, _∙_}
+use mathlib.Core.Path.{_≡_, refl}
 use native.Mathlib.Omega.{arith}
 use lib.Bits.{bitAnd, bitOr}
 use borrow.Author.Tests.{ne-eqb}
 use Rattle.frame.proofs.Table.{same}
 use Rattle.device.specs.Choose.{choose}
 use Rattle.device.specs.Device.{LOCS, REMS, LWLS, RWLS}
-use Rattle.device.specs.Change.{remoting}
 use Rattle.device.specs.Remote.{moves, moved}
 use Rattle.device.specs.declared.Device.{Device}
 

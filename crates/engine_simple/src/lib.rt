@@ -32,7 +32,7 @@ use engine_table::SENDS_DATA;
 use engine_table::SENDS_DEVICE_ID;
 use frame::Message;
 ghost use mathlib.Core.Path.{_≡_};
-ghost use Prim.Native.Nat.{_≤_, _<_};
+ghost use Prim.Native.Nat.{_<_};
 ghost use Rattle.frame.specs.Decoding.{decoded};
 ghost use Rattle.device.specs.Clear.{toListener};
 ghost use Rattle.device.specs.Reply.{sends};

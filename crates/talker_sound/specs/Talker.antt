@@ -3,7 +3,7 @@ use mathlib.Core.Bool.{Bool, _&&_}
 use lib.Dec.{eqb, leb}
 use Rattle.device.specs.Device.{sendingData}
 use Rattle.device.specs.declared.Device.{Device}
-use Rattle.record.specs.Sound.{only, sendingAble, addressedAble, dataAble, sentWithin, repliedRight, quietOutside}
+use Rattle.record.specs.Sound.{only, sendingAble, addressedAble, dataAble, repliedRight, quietOutside}
 use Rattle.record.specs.Sound.{lastBelow}
 
 -- of `talkerRight` these ask the same in every state,

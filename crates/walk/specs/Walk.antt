@@ -12,13 +12,13 @@ use Rattle.device.specs.Take.{takes}
 use Rattle.device.specs.Sent.{Sent}
 use Rattle.device.specs.declared.Device.{Device}
 use Rattle.device.specs.declared.Handed.{Handed}
-use Rattle.device.specs.declared.Handed.the-variants as handed
 use Rattle.record.specs.Record.{deviceOf, recordOf, zeros}
 use Rattle.record.specs.Sound.{soundRecord}
 use Rattle.area.specs.Sizes.{headerSize, mostDevices, isCount, recordAt}
 use Rattle.area.specs.Parts.{join, all}
 use Rattle.area.specs.Loop.{countIn, recordsIn, shape, unsound}
-use Rattle.calls.specs.Calls.{noEvent, clear, trigger}
+use Rattle.calls.specs.Calls.{hopAnswer}
+use Rattle.calls.specs.declared.HopAnswer.{HopAnswer}
 use Rattle.walk.specs.declared.WalkAnswer.{WalkAnswer}
 
 -- ---- Past devices, the first one first
@@ -35,15 +35,16 @@ outOf (d ∷ ds) f = outOf ds (takes d f .frame)
 
 -- ---- In bytes
 
--- what a device was handed, in four bytes: handed, byte, end, event
+-- the last four numbers of a hop's answer: handed, byte, end, event
+abbrev pub fourBytes : HopAnswer → List ℕ
+fourBytes r = r .handed ∷ r .byte ∷ r .end ∷ r .event ∷ []
+
+-- what a device was handed, as a hop's answer has it, in four bytes
 abbrev pub toldSize : ℕ
 toldSize = 4
 
 abbrev pub toldOf : Handed → List ℕ
-toldOf handed.Nothing = 0 ∷ 0 ∷ 0 ∷ noEvent ∷ []
-toldOf (handed.Byte b e) = 1 ∷ b ∷ e ∷ noEvent ∷ []
-toldOf handed.Clear = 0 ∷ 0 ∷ 0 ∷ clear ∷ []
-toldOf handed.Trigger = 0 ∷ 0 ∷ 0 ∷ trigger ∷ []
+toldOf h = fourBytes (hopAnswer 0 h)
 
 -- the devices of header and records
 abbrev pub devicesIn : List ℕ → List Device

@@ -3,11 +3,10 @@
 use Prim.Native.Nat.{ℕ, _/_, _%_}
 use mathlib.Core.Path.{refl}
 use mathlib.Core.List.{List, [], _∷_}
-use lib.ListN.{set, length-set}
+use lib.ListN.{set}
 use borrow.Author.Needs.{needs}
 use Rattle.device.specs.Change.{_becomes_, last, sent, replied}
-use Rattle.device.specs.declared.Device.{Device}
-use Rattle.record.specs.Record.{deviceOf, recordOf}
+use Rattle.record.specs.Record.{recordOf}
 use Rattle.engine_bytes.proofs.Stored.{stored}
 use Rattle.engine_bytes.proofs.count.Statement.{statement}
 use Rattle.engine_bytes.proofs.count.Tie as tie

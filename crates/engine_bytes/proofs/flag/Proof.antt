@@ -2,8 +2,7 @@
 use Prim.Native.Nat.{ℕ, _+_, _%_}
 use mathlib.Core.Path.{refl}
 use mathlib.Core.List.{List, [], _∷_}
-use native.Mathlib.Omega.{arith}
-use lib.ListN.{getD, set, length-set}
+use lib.ListN.{getD, set}
 use borrow.Author.Needs.{needs}
 use Rattle.device.specs.Device.{received}
 use Rattle.device.specs.Change.{_becomes_, fixedsecond, second}

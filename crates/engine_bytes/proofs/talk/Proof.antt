@@ -5,8 +5,7 @@ use mathlib.Core.List.{List, [], _∷_}
 use lib.ListN.{set, length-set}
 use borrow.Author.Needs.{needs}
 use Rattle.device.specs.Change.{_becomes_, talker, noted, last, replied}
-use Rattle.device.specs.declared.Device.{Device}
-use Rattle.record.specs.Record.{deviceOf, recordOf}
+use Rattle.record.specs.Record.{recordOf}
 use Rattle.engine_bytes.proofs.Stored.{stored}
 use Rattle.engine_bytes.proofs.talk.Statement.{statement}
 use Rattle.engine_bytes.proofs.talk.Tie as tie

@@ -1,7 +1,6 @@
 -- `engine_data::agrees` meets its contract: the last frame is read as the one come back was.
 use borrow.Author.Needs.{needs}
 use native.Mathlib.Omega.{arith}
-use mathlib.Core.Path.{_≡_, refl, ap, _∙_}
 use Rattle.record.specs.Record.{deviceOf}
 use Rattle.engine_data.proofs.agrees.Statement.{statement}
 use Rattle.engine_data.proofs.agrees.Tie as tie

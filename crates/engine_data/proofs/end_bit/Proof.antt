@@ -1,5 +1,4 @@
 -- `engine_data::end_bit` meets its contract: its test is the definition's.
-use borrow.Author.Needs.{needs}
 use borrow.Author.Tests.{eq-eqb, ne-eqb}
 use Rattle.frame.specs.Decoding.{end}
 use Rattle.engine_data.proofs.end_bit.Statement.{statement}

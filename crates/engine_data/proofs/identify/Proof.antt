@@ -1,8 +1,5 @@
 -- `engine_data::identify` meets its contract: the bits go out with the answer among them.
 use borrow.Author.Needs.{needs}
-use mathlib.Core.Path.{_≡_, refl, ap, _∙_}
-use Rattle.device.specs.Reply.{sends}
-use Rattle.device.specs.Data.{idy}
 use Rattle.record.specs.Record.{deviceOf}
 use Rattle.engine_data.proofs.identify.Statement.{statement}
 use Rattle.engine_data.proofs.identify.Tie as tie

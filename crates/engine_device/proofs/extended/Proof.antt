@@ -1,7 +1,7 @@
 -- `engine_device::extended` meets its contract: each arm is its own rule of the kind, and all else a simple device's
 -- from where it begins.
 use borrow.Author.Needs.{needs}
-use mathlib.Core.Path.{_≡_, refl, sym, ap, _∙_}
+use mathlib.Core.Path.{_≡_, refl, ap, _∙_}
 use native.Mathlib.Omega.{arith}
 use mathlib.Core.List.{List}
 use Prim.Native.Nat.{ℕ}

@@ -1,7 +1,7 @@
 -- `engine_extended::aau` meets its contract: the changes are the rule's, one after the other.
 use borrow.Author.Needs.{needs}
 use Prim.Native.Nat.{_%_}
-use mathlib.Core.Path.{_≡_, ap, _∙_}
+use mathlib.Core.Path.{ap, _∙_}
 use lib.ListN.{getD}
 use Rattle.device.specs.Device.{received}
 use Rattle.device.specs.Change.{placed, seconding}

@@ -3,8 +3,8 @@
 use borrow.Author.Needs.{needs}
 use Prim.Native.Nat.{_+_}
 use lib.ListN.{getD}
-use mathlib.Core.Path.{_≡_, refl, ap, _∙_}
-use Rattle.device.specs.Change.{placed, seconding}
+use mathlib.Core.Path.{ap, _∙_}
+use Rattle.device.specs.Change.{placed}
 use Rattle.device.specs.Extended.{aes}
 use Rattle.device.specs.Reply.{sends}
 use Rattle.device.specs.declared.Device.{Device}

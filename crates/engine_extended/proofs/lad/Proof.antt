@@ -1,7 +1,7 @@
 -- `engine_extended::lad` meets its contract: each return follows from the tests on its way, and the changes are the
 -- rule's, one after the other.
 use borrow.Author.Needs.{needs}
-use mathlib.Core.Path.{_≡_, refl, ap, _∙_}
+use mathlib.Core.Path.{ap, _∙_}
 use Rattle.device.specs.Change.{flagging}
 use Rattle.device.specs.Extended.{extendedLad}
 use Rattle.device.specs.declared.Device.{Device}

@@ -1,7 +1,7 @@
 -- `engine_extended::sad` meets its contract: each return follows from the tests on its way, and the own SAD listens
 -- before it talks.
 use borrow.Author.Needs.{needs}
-use mathlib.Core.Path.{_≡_, refl, ap, _∙_}
+use mathlib.Core.Path.{ap, _∙_}
 use Rattle.device.specs.Extended.{sadTalks, sad}
 use Rattle.device.specs.declared.Device.{Device}
 use Rattle.device.proofs.Arms.{arms, when-eq}

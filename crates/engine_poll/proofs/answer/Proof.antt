@@ -1,7 +1,7 @@
 -- `engine_poll::answer` meets its contract: the constant holds the powers of two, and each return follows from the
 -- tests on its way.
 use borrow.Author.Needs.{needs}
-use Prim.Native.Nat.{ℕ, _%_, _^_, _≤_, _<_}
+use Prim.Native.Nat.{ℕ, _^_, _≤_, _<_}
 use mathlib.Core.Path.{_≡_}
 use native.Mathlib.Omega.{arith}
 use Rattle.frame.proofs.Table.{entry}

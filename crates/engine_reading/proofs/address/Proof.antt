@@ -1,5 +1,4 @@
 -- `engine_reading::address` meets its contract: its test is the definition's.
-use borrow.Author.Needs.{needs}
 use borrow.Author.Tests.{eq-eqb, ne-eqb}
 use Rattle.engine_reading.proofs.address.Statement.{statement}
 use Rattle.engine_reading.proofs.address.Tie as tie

@@ -2,7 +2,7 @@
 -- kind.
 use borrow.Author.Needs.{needs}
 use Prim.Native.Nat.{ℕ, _+_}
-use mathlib.Core.Path.{_≡_, refl}
+use mathlib.Core.Path.{refl}
 use mathlib.Core.List.{List, [], _∷_}
 use Rattle.frame.specs.Messages.{messages, within, lookup, kindAt}
 use Rattle.engine_reading.proofs.Codes.{keyed, isIn, not-in, others}

@@ -1,7 +1,7 @@
 -- `engine_reading::free` meets its contract: each kind is looked up, and the others leave none free.
 use borrow.Author.Needs.{needs}
 use Prim.Native.Nat.{ℕ}
-use mathlib.Core.Path.{_≡_, refl}
+use mathlib.Core.Path.{refl}
 use mathlib.Core.List.{List, [], _∷_}
 use Rattle.frame.specs.Messages.{kinds, messages, codesIn, codesOf}
 use Rattle.frame.specs.Decoding.{hasC1}

@@ -1,15 +1,13 @@
 -- `engine_reading::write` meets its contract: each return adds up what the definition does, from the first code of
 -- the kind that its tests leave.
-use Prim.Native.Nat.{ℕ, _+_, _*_}
+use Prim.Native.Nat.{ℕ}
 use mathlib.Core.Path.{_≡_, refl}
-use mathlib.Core.Bool.{Bool, true, false, _||_}
+use mathlib.Core.Bool.{true}
 use native.Mathlib.Omega.{arith}
-use lib.Dec.{eqb}
 use borrow.Author.Needs.{needs}
 use borrow.Author.Tests.{eqb-true, ne-eqb}
 use Rattle.frame.specs.Messages.{messages, firstIn, firstOf}
-use Rattle.frame.specs.Decoding.{dab, end, idy, hasC1, frameOf}
-use Rattle.frame.specs.declared.Message.{Message}
+use Rattle.frame.specs.Decoding.{dab, end, idy, hasC1}
 use Rattle.engine_reading.proofs.write.Statement.{statement}
 use Rattle.engine_reading.proofs.write.Tie as tie
 

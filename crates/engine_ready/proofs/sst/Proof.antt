@@ -1,7 +1,6 @@
 -- `engine_ready::sst` meets its contract: each return follows from the tests on its way, and the poll comes before the
 -- reply.
 use borrow.Author.Needs.{needs}
-use mathlib.Core.Path.{_≡_, refl, ap, _∙_}
 use Rattle.device.specs.Ready.{sst}
 use Rattle.device.proofs.Arms.{arms, when-eq, continues-on, talking-on}
 use Rattle.record.specs.Record.{deviceOf}

@@ -1,6 +1,6 @@
 -- `engine_remote::gtl` meets its contract: each return follows from the tests on its way, and the bits are the moves.
 use borrow.Author.Needs.{needs}
-use mathlib.Core.Path.{_≡_, ap, _∙_}
+use mathlib.Core.Path.{ap, _∙_}
 use native.Mathlib.Omega.{arith}
 use Rattle.device.specs.Device.{LOCS, REMS, LWLS, RWLS}
 use Rattle.device.specs.Change.{remoting}

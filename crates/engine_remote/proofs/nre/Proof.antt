@@ -1,8 +1,5 @@
 -- `engine_remote::nre` meets its contract: one value is stored after the other.
 use borrow.Author.Needs.{needs}
-use mathlib.Core.Path.{_≡_, refl}
-use mathlib.Core.List.{[], _∷_}
-use Rattle.device.specs.Change.{_becomes_, enabled, changed}
 use Rattle.engine_remote.proofs.nre.Statement.{statement}
 use Rattle.engine_remote.proofs.nre.Tie as tie
 

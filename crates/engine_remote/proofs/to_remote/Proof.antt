@@ -1,7 +1,7 @@
 -- `engine_remote::to_remote` meets its contract: each return follows from the tests on its way, and the bits are the
 -- moves.
 use borrow.Author.Needs.{needs}
-use mathlib.Core.Path.{_≡_, ap, _∙_}
+use mathlib.Core.Path.{ap, _∙_}
 use native.Mathlib.Omega.{arith}
 use Rattle.device.specs.Device.{LOCS, REMS, LWLS, RWLS}
 use Rattle.device.specs.Change.{remoting}

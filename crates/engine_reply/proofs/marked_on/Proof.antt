@@ -1,7 +1,5 @@
 -- `engine_reply::marked_on` meets its contract: a frame with C1 is the one that its decoding makes.
 use borrow.Author.Needs.{needs}
-use mathlib.Core.Path.{_≡_}
-use Rattle.frame.specs.Decoding.{frameOf}
 use Rattle.device.specs.Reply.{marked}
 use Rattle.device.proofs.Arms.{when-eq, unless-eq}
 use Rattle.device.proofs.Marked.{asked}

@@ -1,6 +1,6 @@
 -- `engine_simple::command` meets its contract: each arm is the rule of its kind.
 use borrow.Author.Needs.{needs}
-use mathlib.Core.Path.{_≡_, refl}
+use mathlib.Core.Path.{refl}
 use Rattle.device.specs.Choose.{choose}
 use Rattle.device.specs.Clear.{dcl, sdc, get}
 use Rattle.record.specs.Record.{deviceOf}

@@ -1,7 +1,6 @@
 -- `engine_simple::obey` meets its contract: each arm is the rule of its kind, and the other commands have none.
 use borrow.Author.Needs.{needs}
-use mathlib.Core.Path.{_≡_, refl}
-use native.Mathlib.Omega.{arith}
+use mathlib.Core.Path.{refl}
 use Rattle.device.specs.Choose.{choose}
 use Rattle.device.specs.Commands.{lad, unl, tad, unt, ifc, aau}
 use Rattle.device.specs.Remote.{ren, nre, llo, gtl}

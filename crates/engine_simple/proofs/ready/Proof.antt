@@ -1,6 +1,6 @@
 -- `engine_simple::ready` meets its contract: each arm is the rule of its kind, and the other ready frames have none.
 use borrow.Author.Needs.{needs}
-use mathlib.Core.Path.{_≡_, refl, ap}
+use mathlib.Core.Path.{refl, ap}
 use native.Mathlib.Omega.{arith}
 use Rattle.frame.specs.Decoding.{hasC1}
 use Rattle.frame.specs.declared.Message.{Message}
