@@ -3,6 +3,7 @@
 #include "both.h"
 #include "chance.h"
 #include "extended.h"
+#include "lent.h"
 #include "order.h"
 #include "polls.h"
 #include "spoil.h"
@@ -23,7 +24,6 @@
 
 enum {
     PIL, MODEL,
-    GUARD = 32,                                             /* bytes on each side that no call may touch */
     ROOM = GUARD + PIL_AREA_LENGTH(PIL_MOST_DEVICES + 1) + GUARD, /* longer than the longest area */
     SAVED_ROOM = GUARD + PIL_SAVE_LENGTH(PIL_MOST_DEVICES + 1) + GUARD, /* longer than the longest save */
     INPUT_ROOM = SAVE_ROOM,                                 /* items, bytes to load or a save to open */
@@ -331,16 +331,6 @@ static void print_bytes(const char *what, const uint8_t *bytes, size_t length)
     printf("\n");
 }
 
-static void print_first_difference(const char *what, const uint8_t *a, const uint8_t *b, long room)
-{
-    for (long i = 0; i < room; i++)
-        if (a[i] != b[i]) {
-            printf("  first differing byte, %s: %ld, %02x and %02x\n", what, i - GUARD, a[i], b[i]);
-            return;
-        }
-    printf("  no differing byte, %s\n", what);
-}
-
 static void print_call(const char *how, const struct call *c)
 {
     printf("difference at call %" PRIu64 " of seed %" PRIu64 ": %s\n", made, seed, how);
@@ -354,11 +344,11 @@ static _Noreturn void differs(const char *how, const struct call *c, const struc
     print_call(how, c);
     print_answer(PIL, &answers[PIL]);
     print_answer(MODEL, &answers[MODEL]);
-    print_first_difference("pil's area and the model's", rooms[PIL], rooms[MODEL], ROOM);
-    print_first_difference("pil's area and the area before", rooms[PIL], before, ROOM);
+    print_first("pil's area and the model's", rooms[PIL], rooms[MODEL], ROOM);
+    print_first("pil's area and the area before", rooms[PIL], before, ROOM);
     if (c->which == SAVE) {
-        print_first_difference("pil's save and the model's", saved[PIL], saved[MODEL], SAVED_ROOM);
-        print_first_difference("pil's save and the output before", saved[PIL], saved_before, SAVED_ROOM);
+        print_first("pil's save and the model's", saved[PIL], saved[MODEL], SAVED_ROOM);
+        print_first("pil's save and the output before", saved[PIL], saved_before, SAVED_ROOM);
     }
     if (c->which == WALK)
         print_walk();
@@ -731,16 +721,8 @@ static void count_answer(const struct call *c, const struct answer *a)
         count_walk(&c->lent, c->number, (uint8_t)a->refusal, before + GUARD);
 }
 
-/* Nothing is altered but length bytes behind the guard. */
-static int altered_within(const uint8_t *now, const uint8_t *was, size_t length, size_t room)
-{
-    size_t end = GUARD + length;
-
-    return memcmp(now, was, GUARD) == 0 && memcmp(now + end, was + end, room - end) == 0;
-}
-
-/* Owed, save, a walk and a refused call do not alter the area, an accepted one nothing beyond it, and only an accepted
-   save its output: no model is needed to see this. */
+/* Owed, save and a refused call do not alter the area, an accepted one nothing beyond it, and only an accepted save its
+   output: no model is needed to see this. */
 static int only_lent_bytes_altered(const struct call *c, const struct answer *a)
 {
     int accepted = a->refusal == PIL_ACCEPTED;
@@ -1432,16 +1414,16 @@ static void damaged_call(void)
 
 /* Walks that are mostly refused. */
 
-/* A wrong length of the records or of what is told; byte 0 and what is told sometimes fit that of the records. */
-static void wrong_walk_call(void)
+/* Another length of the records or of what is told; byte 0 and what is told sometimes fit that of the records. */
+static void other_length_walk(void)
 {
     struct call c = walk_call();
     uint8_t first = area_of(MODEL)[0];
 
     if (one_in(2)) {
-        c.lent.told_len = wrong_told_length(n);
+        c.lent.told_len = other_told_length(n);
     } else {
-        c.lent.records_len = wrong_records_length(n);
+        c.lent.records_len = other_records_length(n);
         if (one_in(2))
             set_both(0, (unsigned)(c.lent.records_len / PIL_RECORD_LENGTH));
         if (one_in(2))
@@ -1474,7 +1456,7 @@ static void damaged_walk(void)
     memcpy(good, rooms[MODEL], ROOM);
     damage();
     if (one_in(4))
-        c.lent.told_len = wrong_told_length(n);
+        c.lent.told_len = other_told_length(n);
     if (one_in(4))
         set_both(PIL_HEADER_ZEROS + below(PIL_HEADER_LENGTH - PIL_HEADER_ZEROS), 1u << below(8));
     compare_call(&c);
@@ -1486,7 +1468,7 @@ static void refused_walk(void)
     switch (below(6)) {
     case 0: too_many_walked(); break;
     case 1:
-    case 2: wrong_walk_call(); break;
+    case 2: other_length_walk(); break;
     default: damaged_walk();
     }
 }

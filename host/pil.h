@@ -448,11 +448,11 @@ struct pil_hopped pil_hop(uint8_t *area, size_t area_len, uint64_t device);
 struct pil_taken pil_take(uint8_t *area, size_t area_len);
 /* Walks a frame of any kind past every device in order, without links: each does with it what it would at a hop, and
    the next one gets what it sent. Lent are header and records, the first PIL_RECORDS_LENGTH(n) bytes of an area or a
-   copy of them, and PIL_TOLD_LENGTH(n) bytes in which it tells of every device what a hop would answer, over whatever
-   they held and with zeros where nothing happened. On a sound area with empty links a put, a hop of each device in
-   order and a take come to the same records, bytes handed, events and frame out, and none of them is refused with 6.
-   It is written apart from those, as a second witness. Frames in links are not looked at and stay behind. Leaves all
-   that is lent as it was where it refuses. Gives 1, 2, 4. */
+   copy of them, which become those after the frame, and PIL_TOLD_LENGTH(n) bytes in which it tells of every device what
+   a hop would answer, over whatever they held and with zeros where nothing happened. On a sound area with empty links a
+   put, a hop of each device in order and a take come to the same records, bytes handed, events and frame out, and none
+   of them is refused with 6. It is written apart from those, as a second witness: to run both, lend it a copy. Frames
+   in links are not looked at and stay behind. Leaves all that is lent as it was where it refuses. Gives 1, 2, 4. */
 struct pil_walked pil_walk(uint8_t *records, size_t records_len, uint64_t frame, uint8_t *told, size_t told_len);
 /* Gives the device new data to send, none of it sent yet; with no bytes the device has nothing to send. The choice end
    says how the last byte goes out, PIL_LAST_PLAIN or PIL_LAST_END, and is kept in the record, with no bytes too; any

@@ -1,5 +1,6 @@
 /* The stack that hop, drain, walk, save and open take, libpil's and the model's: each runs on a painted stack, which
    shows the deepest byte touched and copies of a record. Use: stack [HOP DRAIN WALK]; exit 1: too much, or a copy. */
+#include "lent.h"
 #include "loops.h"
 #include "model.h"
 
@@ -148,12 +149,12 @@ static void lend(unsigned which)
         memset(told, PAINT, sizeof told);
 }
 
-/* All of it is written: paint is neither a yes nor a no, nor an end bit, nor an event. */
+/* All of it is written: paint is neither a yes nor a no, nor an end bit, nor an event, and byte and end bit are 0 where
+   nothing was handed. Only a byte handed may be as paint is. */
 static int all_told(void)
 {
     for (unsigned i = 0; i < LOOP_DEVICES; i++)
-        if (told[PIL_TOLD_AT(i) + PIL_TOLD_HANDED] > 1 || told[PIL_TOLD_AT(i) + PIL_TOLD_END] > 1
-            || told[PIL_TOLD_AT(i) + PIL_TOLD_EVENT] > PIL_EVENT_TRIGGER)
+        if (!can_be_told(told + PIL_TOLD_AT(i)))
             return 0;
     return 1;
 }

@@ -3,13 +3,12 @@
 
 #include "both.h"
 #include "chance.h"
+#include "lent.h"
 
-#include <stdio.h>
 #include <string.h>
 
 enum {
     PIL, MODEL,
-    GUARD = 32, /* bytes on each side that no walk may touch */
     MOST_TRIED = PIL_MOST_DEVICES + 1,
     LENT_ROOM = PIL_AREA_LENGTH(MOST_TRIED), /* copied from the area's room, whatever length is told */
     ROOM = GUARD + LENT_ROOM + GUARD,
@@ -28,7 +27,7 @@ struct lent lent_for(unsigned n)
     return (struct lent){PIL_RECORDS_LENGTH(n), PIL_TOLD_LENGTH(n)};
 }
 
-size_t wrong_records_length(unsigned n)
+size_t other_records_length(unsigned n)
 {
     size_t right = PIL_RECORDS_LENGTH(n);
 
@@ -44,13 +43,13 @@ size_t wrong_records_length(unsigned n)
     }
 }
 
-size_t wrong_told_length(unsigned n)
+size_t other_told_length(unsigned n)
 {
     size_t right = PIL_TOLD_LENGTH(n);
-    size_t wrong[] = {0, n, right - 1, right + 1, right - PIL_TOLD_EACH, right + PIL_TOLD_EACH, right + 256,
+    size_t other[] = {0, n, right - 1, right + 1, right - PIL_TOLD_EACH, right + PIL_TOLD_EACH, right + 256,
                       right + ((size_t)1 << 32), SIZE_MAX, PIL_TOLD_LENGTH(below(MOST_TRIED + 1))};
 
-    return wrong[below(sizeof wrong / sizeof *wrong)];
+    return other[below(sizeof other / sizeof *other)];
 }
 
 /* One walk on both sides. */
@@ -81,22 +80,6 @@ const uint8_t *walked_record(unsigned device)
     return records[PIL] + GUARD + PIL_RECORD_AT(device);
 }
 
-/* Nothing is altered but length bytes behind the guard. */
-static int altered_within(const uint8_t *now, const uint8_t *was, size_t length, size_t room)
-{
-    size_t end = GUARD + length;
-
-    return memcmp(now, was, GUARD) == 0 && memcmp(now + end, was + end, room - end) == 0;
-}
-
-/* Bytes and end bits are told only where one was handed, and no command that clears or triggers hands one. */
-static int can_be_told(const uint8_t *t)
-{
-    if (t[PIL_TOLD_HANDED])
-        return t[PIL_TOLD_HANDED] == 1 && t[PIL_TOLD_END] <= 1 && t[PIL_TOLD_EVENT] == PIL_EVENT_NONE;
-    return t[PIL_TOLD_BYTE] == 0 && t[PIL_TOLD_END] == 0 && t[PIL_TOLD_EVENT] <= PIL_EVENT_TRIGGER;
-}
-
 /* A refused walk alters nothing, an accepted one nothing beyond what it is lent: no model is needed to see this. */
 const char *walk_differs(const struct lent *l, uint8_t refusal)
 {
@@ -113,16 +96,6 @@ const char *walk_differs(const struct lent *l, uint8_t refusal)
         if (!can_be_told(told[PIL] + GUARD + at))
             return "what cannot be told";
     return NULL;
-}
-
-static void print_first(const char *what, const uint8_t *a, const uint8_t *b, long room)
-{
-    for (long i = 0; i < room; i++)
-        if (a[i] != b[i]) {
-            printf("  first differing byte, %s: %ld, %02x and %02x\n", what, i - GUARD, a[i], b[i]);
-            return;
-        }
-    printf("  no differing byte, %s\n", what);
 }
 
 void print_walk(void)

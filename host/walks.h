@@ -1,4 +1,4 @@
-/* Walks (02, l) for the comparison: what is lent to them on both sides, lengths that are wrong, and what they met. */
+/* Walks (02, l) for the comparison: what is lent to them on both sides, other lengths, and what they met. */
 #ifndef WALKS_H
 #define WALKS_H
 
@@ -27,10 +27,11 @@ enum behind { LINKS_EMPTY, LINKS_HOLD, LINKS_UNSOUND, BEHINDS };
 
 extern uint64_t walkings[WALKINGS], tellings_of[2][TELLINGS], pasts[PASTS], behinds[BEHINDS];
 
-/* The lengths for n devices, and wrong ones: by a byte, of another count, of an area, or right when cut to few bits. */
+/* The lengths for n devices, and others, few of them right by chance: by a byte, of any count, of an area, or right
+   when cut to few bits. */
 struct lent lent_for(unsigned n);
-size_t wrong_records_length(unsigned n);
-size_t wrong_told_length(unsigned n);
+size_t other_records_length(unsigned n);
+size_t other_told_length(unsigned n);
 /* Lends both sides a copy of what stands in the area's room, and any bytes to be told over. */
 void lend_walk(const uint8_t *area);
 struct pil_walked walk_on(int side, const struct lent *l, uint64_t frame);

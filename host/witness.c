@@ -1,7 +1,8 @@
 /* Two witnesses of one loop (02, l): random scripts of frames and local calls, each frame by put, hops and take on an
    area with empty links, and by a walk past the records of another. Use: witness [seed [scripts]]. Exit 0: they agree,
    and all was met; 1: they differ; 2: too little was met; 3: wrong use. Compiled with WITNESS_FAULT 1 to 12 it spoils
-   an answer or a byte in some rare case, with an odd number the loop's and with an even one the walk's. */
+   what libpil gave, with an odd number by the loop and with an even one by the walk. The Makefile also has the model
+   walk, or put, hop and take, in place of libpil: without a fault of its own, and with. */
 #include "chance.h"
 #include "pil.h"
 
