@@ -19,6 +19,7 @@
 enum {
     DEFAULT_SEED = 20245,
     DEFAULT_SCRIPTS = 1500,
+    SAD = 0x460,
     IDY = 0x600,
     NRD = 0x542,
     IAA = 0x59f,
@@ -42,7 +43,7 @@ static uint64_t seed = DEFAULT_SEED, scripts = DEFAULT_SCRIPTS, script, step, se
 /* What was met. Each of these must be. */
 static struct {
     uint64_t walks, devices, extended, longest, alone, changed, bytes, ends, clears, triggers, locals, locals_refused;
-    uint64_t shape, unsound, bad_frame, still_sound;
+    uint64_t both_primaries, shape, unsound, bad_frame, still_sound;
 } met;
 static uint64_t kinds[PIL_KINDS]; /* of the frames that were walked */
 
@@ -372,12 +373,29 @@ static void length_step(void)
     send_both(chance_frame(looped, out), one_in(2) ? PIL_RECORD_LENGTH : 1 + below(PIL_RECORD_LENGTH));
 }
 
+/* Its own SAD to an extended device that has both primaries received. No frame leaves a device so, but an area that is
+   lent can say it, and it is sound. */
+static void both_primaries_step(void)
+{
+    uint8_t *r = looped + PIL_RECORD_AT(below(n));
+    unsigned second = r[PIL_RECORD_SECOND] & PIL_SECOND_ADDRESS;
+
+    if (!(r[PIL_RECORD_MORE] & PIL_MORE_EXTENDED) || second == PIL_NO_ADDRESS)
+        return;
+    r[PIL_RECORD_FIXED_SECOND] |= PIL_PRIMARY_RECEIVED;
+    r[PIL_RECORD_SECOND] |= PIL_PRIMARY_RECEIVED;
+    memcpy(walked, looped, sizeof walked);
+    met.both_primaries++;
+    send_both(SAD + second, 0);
+}
+
 static void some_step(void)
 {
     switch (below(40)) {
     case 0: damage_step(); break;
     case 1: number_step(); break;
     case 2: length_step(); break;
+    case 3: both_primaries_step(); break;
     default: one_in(4) ? local_step() : send_some();
     }
 }
@@ -414,8 +432,8 @@ static unsigned kinds_met(void)
 static int all_met(void)
 {
     const uint64_t counts[] = {met.walks, met.devices, met.extended, met.longest, met.alone, met.changed, met.bytes,
-                               met.ends, met.clears, met.triggers, met.locals, met.locals_refused, met.shape,
-                               met.unsound, met.bad_frame, met.still_sound};
+                               met.ends, met.clears, met.triggers, met.locals, met.locals_refused,
+                               met.both_primaries, met.shape, met.unsound, met.bad_frame, met.still_sound};
 
     for (unsigned i = 0; i < sizeof counts / sizeof *counts; i++)
         if (counts[i] == 0)
@@ -428,11 +446,11 @@ static void report(void)
     printf("witness: %" PRIu64 " scripts, both alike: %" PRIu64 " walks of %u kinds past %" PRIu64 " devices, %" PRIu64
            " of them extended, %" PRIu64 " walks past %d, %" PRIu64 " past one; %" PRIu64 " frames came out as others, "
            "%" PRIu64 " bytes handed, %" PRIu64 " end bytes, %" PRIu64 " clears, %" PRIu64 " triggers; %" PRIu64
-           " local calls and %" PRIu64 " refused; refused alike with 1: %" PRIu64 ", 2: %" PRIu64 ", 4: %" PRIu64
-           "; damage not refused: %" PRIu64 "%s\n", scripts, met.walks, kinds_met(), met.devices, met.extended,
-           met.longest, PIL_MOST_DEVICES, met.alone, met.changed, met.bytes, met.ends, met.clears, met.triggers,
-           met.locals, met.locals_refused, met.shape, met.unsound, met.bad_frame, met.still_sound,
-           all_met() ? "" : "  TOO FEW");
+           " local calls and %" PRIu64 " refused, %" PRIu64 " SADs after both primaries; refused alike with 1: %" PRIu64
+           ", 2: %" PRIu64 ", 4: %" PRIu64 "; damage not refused: %" PRIu64 "%s\n", scripts, met.walks, kinds_met(),
+           met.devices, met.extended, met.longest, PIL_MOST_DEVICES, met.alone, met.changed, met.bytes, met.ends,
+           met.clears, met.triggers, met.locals, met.locals_refused, met.both_primaries, met.shape, met.unsound,
+           met.bad_frame, met.still_sound, all_met() ? "" : "  TOO FEW");
 }
 
 int main(int argc, char **argv)

@@ -4,8 +4,9 @@ use Prim.Native.Nat.{ℕ}
 use mathlib.Core.Path.{_≡_, refl, ap, _∙_}
 use mathlib.Core.List.{List, [], _∷_}
 use mathlib.Core.Bool.{Bool, true, false, cond}
+use native.Mathlib.Omega.{arith}
 use lib.Dec.{eqb}
-use borrow.Author.Tests.{eqb-true, eqb-false}
+use borrow.Author.Tests.{eqb-true, eqb-false, ne-eqb}
 use Rattle.frame.specs.Messages.{kindAt}
 use Rattle.frame.specs.Decoding.{decoded}
 use Rattle.device.specs.Choose.{choose}
@@ -43,6 +44,12 @@ selected P k rs s h = go rs (P (select k rs s)) (λ o. o h)
         λ p. go rs Q (λ o. q (λ n. chosen P (eqb k (r .kind)) (r .gives) (select k rs s) (λ t. p (eqb-true _ _ t))
         (λ t. o (λ u. n (eqb-false _ _ t, u)))))
 
+-- where none has it, what is given for that is selected
+pub unselected : (k : ℕ) (rs : List Rule) (s : Sent) → Unlisted k rs → select k rs s ≡ s
+unfolding choose
+unselected k [] s h = refl
+unselected k (r ∷ rs) s h = rw (ne-eqb k (r .kind) (h .0)) (unselected k rs s (h .1))
+
 -- by the rules of either variant
 pub by-variant : (P : Sent → Type 0) (d : Device) (f : ℕ) → (hasFurther d extended ≡ true → P (takesExtended d f)) →
     (hasFurther d extended ≡ false → P (takesSimple d f)) → P (takes d f)
@@ -69,22 +76,22 @@ abbrev pub listed : ℕ → List Rule → Bool
 listed k [] = false
 listed k (r ∷ rs) = cond (eqb k (r .kind)) true (listed k rs)
 
-unselected : (k : ℕ) (rs : List Rule) (s : Sent) → listed k rs ≡ false → select k rs s ≡ s
-unfolding choose
-unselected k [] s h = refl
-unselected k (r ∷ rs) s h = go (eqb k (r .kind)) (λ e. unselected k rs s e) h
+not-listed : (k : ℕ) (rs : List Rule) → listed k rs ≡ false → Unlisted k rs
+not-listed k [] h = tt
+not-listed k (r ∷ rs) h = go (eqb k (r .kind)) refl (not-listed k rs) h
   where
-    go : (b : Bool) → (listed k rs ≡ false → select k rs s ≡ s) → cond b true (listed k rs) ≡ false →
-        choose b (r .gives) (select k rs s) ≡ s
-    go true i e = let z : true ≡ false = e in cc
-    go false i e = i e
+    go : (b : Bool) → eqb k (r .kind) ≡ b → (listed k rs ≡ false → Unlisted k rs) →
+        cond b true (listed k rs) ≡ false → Unlisted k (r ∷ rs)
+    go true e i h = let y : true ≡ false = h in let z : _≡_ {A = ℕ} 0 1 = cc in absurd (omega arith)
+    go false e i h = (eqb-false k (r .kind) e, i h)
 
 module _ (d : Device) (f k : ℕ) (e : kindAt f ≡ k) (n : listed k (extendedRules d f (decoded f)) ≡ false) where
   pub heeded : takesExtended d f ≡ takesSimple (heeding d k) f
   unfolding takesExtended
   heeded =
-      ap (λ (j : ℕ). select j (extendedRules d f (decoded f)) (takesSimple (heeding d j) f)) e
-      ∙ unselected k (extendedRules d f (decoded f)) (takesSimple (heeding d k) f) n
+      let own = extendedRules d f (decoded f) in
+      ap (λ (j : ℕ). select j own (takesSimple (heeding d j) f)) e
+      ∙ unselected k own (takesSimple (heeding d k) f) (not-listed k own n)
 
   -- no command
   pub as-simple : commandKind k ≡ false → takes d f ≡ takesSimple d f

@@ -1,2 +1,2 @@
--- Clauses that the plain engine tests at a time.
+-- Clauses that the plain engine tests together.
 pub mod Clauses

@@ -1,29 +1,27 @@
--- The bits move the four states as the definition's pairs do, by a computed test over the four; any other number stays.
-use Prim.Native.Nat.{ℕ, _≤_, _<_}
-use mathlib.Core.Path.{_≡_, refl}
+-- Bits move a device as the definition's pairs do: on the four states by a computed test, and any other number stays.
+use Prim.Native.Nat.{ℕ, _<_}
+use mathlib.Core.Path.{_≡_, ap}
 use native.Mathlib.Omega.{arith}
+use native.Mathlib.Decide.{decLt}
 use lib.Bits.{bitAnd, bitOr}
-use borrow.Author.Tests.{ne-eqb}
-use Rattle.frame.proofs.Table.{same}
+use borrow.Author.Tests.{lt-ltb, le-ltb, ne-eqb}
+use Rattle.frame.proofs.Table.{values, same}
 use Rattle.device.specs.Choose.{choose}
-use Rattle.device.specs.Device.{LOCS, REMS, LWLS, RWLS}
+use Rattle.device.specs.Change.{remoting}
 use Rattle.device.specs.Remote.{moves, moved}
 use Rattle.device.specs.declared.Device.{Device}
+use Rattle.engine_remote.specs.Bits.{bitsOf, bitsMoved}
 
-module _ (s : ℕ) (h : s < 4) where
-  pub made-remote : bitOr s 1 ≡ moves s LOCS REMS LWLS RWLS
+module _ (kept set a b c e : ℕ)
+    (all : values (λ s. bitOr (bitAnd s kept) set) 0 4 ≡ values (λ s. moves s a b c e) 0 4)
+    (here : a < 4) (there : c < 4) where
+  bits-are : (s : ℕ) → bitsOf s kept set ≡ moves s a b c e
   unfolding moves choose
-  made-remote = same (λ x. bitOr x 1) (λ x. moves x LOCS REMS LWLS RWLS) 4 s refl h
+  bits-are s = go (decLt s 4)
+    where
+      go : Dec (s < 4) → bitsOf s kept set ≡ moves s a b c e
+      go (yes h) = rw (lt-ltb s 4 h) (same (λ x. bitOr (bitAnd x kept) set) (λ x. moves x a b c e) 4 s all h)
+      go (no h) = rw (le-ltb s 4 (omega arith), ne-eqb s a (λ x. omega arith), ne-eqb s c (λ x. omega arith))
 
-  pub made-locked : bitOr s 2 ≡ moves s LOCS LWLS REMS RWLS
-  unfolding moves choose
-  made-locked = same (λ x. bitOr x 2) (λ x. moves x LOCS LWLS REMS RWLS) 4 s refl h
-
-  pub made-local : bitAnd s 2 ≡ moves s REMS LOCS RWLS LWLS
-  unfolding moves choose
-  made-local = same (λ x. bitAnd x 2) (λ x. moves x REMS LOCS RWLS LWLS) 4 s refl h
-
--- a number that is no state
-pub unmoved : (d : Device) (a b c e : ℕ) → 4 ≤ d .remote → a < 4 → c < 4 → d ≡ moved d a b c e
-unfolding moves choose
-unmoved d a b c e h i j = rw (ne-eqb (d .remote) a (λ x. omega arith), ne-eqb (d .remote) c (λ x. omega arith))
+  pub by-bits : (d : Device) → bitsMoved d kept set ≡ moved d a b c e
+  by-bits d = ap (remoting d) (bits-are (d .remote))

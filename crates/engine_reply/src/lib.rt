@@ -30,11 +30,13 @@ ghost use Prim.Native.Nat.{_<_};
 ghost use lib.ListN.{getD};
 ghost use Rattle.frame.specs.Decoding.{hasC1, decoded};
 ghost use Rattle.frame.specs.declared.Message.{Message};
+ghost use Rattle.device.specs.Change.{loadlength, sent, replied};
 ghost use Rattle.device.specs.Reply.{sends, marked, stops, dataFrame, otherByte, otherLength, sendsData, sendsOther};
 ghost use Rattle.device.specs.Reply.{continues};
 ghost use Rattle.record.specs.Record.{deviceOf};
 ghost use Rattle.record.specs.Written.{IsRecord};
 
+// The frames that end a reply: all of it came back, or not.
 pub const ETO: u16 = 0x540;
 
 pub const ETE: u16 = 0x541;
@@ -94,7 +96,7 @@ fn id_next(rec: &[u8]) -> u8
 
 // END where the byte is the last and END was chosen.
 fn data_frame(rec: &[u8]) -> u16
-    requires { ⌜ IsRecord (now rec) × (getD (now rec) 13 0 < getD (now rec) 12 0) ⌝ }
+    requires { ⌜ IsRecord (now rec) × (getD (now rec) sent 0 < getD (now rec) loadlength 0) ⌝ }
     ensures { λ r. ⌜ r ≡ dataFrame (deviceOf (now (rec .entry))) ⌝ }
 {
     let offset = data_next(rec);
@@ -153,7 +155,7 @@ pub fn stops(rec: &mut [u8], answer: u16) -> u16
 }
 
 fn sends_data(rec: &mut [u8]) -> u16
-    requires { ⌜ IsRecord (now rec) × (getD (now rec) 13 0 < getD (now rec) 12 0) ⌝ }
+    requires { ⌜ IsRecord (now rec) × (getD (now rec) sent 0 < getD (now rec) loadlength 0) ⌝ }
     ensures { λ _. ⌜ IsRecord (now (rec .exit)) ⌝ }
     ensures { λ r. ⌜ sends (deviceOf (now (rec .exit))) r ≡ sendsData (deviceOf (now (rec .entry))) ⌝ }
 {
@@ -165,7 +167,7 @@ fn sends_data(rec: &mut [u8]) -> u16
 }
 
 fn sends_other(rec: &mut [u8]) -> u16
-    requires { ⌜ IsRecord (now rec) × (getD (now rec) 16 0 < 255) ⌝ }
+    requires { ⌜ IsRecord (now rec) × (getD (now rec) replied 0 < 255) ⌝ }
     ensures { λ _. ⌜ IsRecord (now (rec .exit)) ⌝ }
     ensures { λ r. ⌜ sends (deviceOf (now (rec .exit))) r ≡ sendsOther (deviceOf (now (rec .entry))) ⌝ }
 {

@@ -1,18 +1,15 @@
 -- The rule of a frame that was read, where one is listed for the number of its kind and where none is.
 use Prim.Native.Nat.{ℕ, _<_}
-use mathlib.Core.Path.{_≡_, refl, sym, ap, _∙_}
+use mathlib.Core.Path.{_≡_, sym, ap, _∙_}
 use mathlib.Core.Bool.{true}
-use mathlib.Core.List.{List, [], _∷_}
-use borrow.Author.Tests.{ne-eqb}
 use Rattle.frame.specs.Messages.{kindAt}
 use Rattle.frame.specs.Decoding.{hasC1, decoded}
 use Rattle.frame.specs.declared.Message.{Message}
-use Rattle.device.specs.Choose.{choose}
 use Rattle.device.specs.Reply.{sends}
-use Rattle.device.specs.Take.{Rule, select, rules, takesSimple}
+use Rattle.device.specs.Take.{select, rules, takesSimple}
 use Rattle.device.specs.declared.Device.{Device}
 use Rattle.device.specs.Sent.{Sent}
-use Rattle.device.proofs.Chosen.{Unlisted}
+use Rattle.device.proofs.Chosen.{Unlisted, unselected}
 use Rattle.device.proofs.Marked.{shows}
 
 module _ (d : Device) (f : ℕ) (m : Message) (read : m ≡ decoded f) where
@@ -34,11 +31,6 @@ module _ (d : Device) (f : ℕ) (m : Message) (read : m ≡ decoded f) where
   pub obeyed : (k : ℕ) (rule : ℕ → Device) {e : Device} → m .kind ≡ k → e ≡ rule (m .offset) →
       sends (rule (decoded f .offset)) f ≡ select k (rules d f (decoded f)) (sends d f) → sends e f ≡ takesSimple d f
   obeyed k rule q h r = ruled k (λ x. sends (rule (x .offset)) f) q (ap (λ (y : Device). sends y f) h) r
-
-unselected : (n : ℕ) (rs : List Rule) (s : Sent) → Unlisted n rs → select n rs s ≡ s
-unfolding choose
-unselected n [] s h = refl
-unselected n (r ∷ rs) s h = rw (ne-eqb n (r .kind) (h .0)) (unselected n rs s (h .1))
 
 -- no rule
 pub passed-on : (d : Device) (f : ℕ) (m : Message) → m ≡ decoded f → Unlisted (m .kind) (rules d f (decoded f)) →

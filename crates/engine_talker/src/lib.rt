@@ -20,8 +20,10 @@ use engine_table::SENDS_STATUS;
 use engine_table::STATUS;
 use engine_table::TALKER;
 ghost use mathlib.Core.Path.{_≡_};
-ghost use Prim.Native.Nat.{_≤_};
+ghost use Prim.Native.Nat.{_≤_, _<_};
 ghost use lib.ListN.{length, getD};
+ghost use Rattle.device.specs.Device.{addressed, sendingData};
+ghost use Rattle.device.specs.Change.{talker};
 ghost use Rattle.record.specs.Record.{recordSize, deviceOf};
 ghost use Rattle.record.specs.Sound.{talkerRight};
 
@@ -35,7 +37,7 @@ fn last(rec: &[u8]) -> u16
 
 // Idle or addressed: addressed with something to send, and no reply, NRD or last frame.
 fn quiet(rec: &[u8]) -> bool
-    requires { ⌜ (length (now rec) ≡ recordSize) × (getD (now rec) 5 0 ≤ 1) ⌝ }
+    requires { ⌜ (length (now rec) ≡ recordSize) × (getD (now rec) talker 0 ≤ addressed) ⌝ }
     ensures { λ r. ⌜ r ≡ talkerRight (deviceOf (now (rec .entry))) ⌝ }
 {
     let able = rec[ABILITIES];
@@ -49,7 +51,7 @@ fn quiet(rec: &[u8]) -> bool
 
 // Sending data, of which some is sent, and no reply.
 fn sends_data(rec: &[u8]) -> bool
-    requires { ⌜ (length (now rec) ≡ recordSize) × (getD (now rec) 5 0 ≡ 2) ⌝ }
+    requires { ⌜ (length (now rec) ≡ recordSize) × (getD (now rec) talker 0 ≡ sendingData) ⌝ }
     ensures { λ r. ⌜ r ≡ talkerRight (deviceOf (now (rec .entry))) ⌝ }
 {
     let able = rec[ABILITIES];
@@ -62,7 +64,7 @@ fn sends_data(rec: &[u8]) -> bool
 
 // Sending a reply with its ability, and as far as its state has it.
 fn replies(rec: &[u8]) -> bool
-    requires { ⌜ (length (now rec) ≡ recordSize) × (3 ≤ getD (now rec) 5 0) ⌝ }
+    requires { ⌜ (length (now rec) ≡ recordSize) × (sendingData < getD (now rec) talker 0) ⌝ }
     ensures { λ r. ⌜ r ≡ talkerRight (deviceOf (now (rec .entry))) ⌝ }
 {
     let able = rec[ABILITIES];

@@ -1,50 +1,30 @@
--- `engine_remote::to_remote` meets its contract: each return follows from the tests on its way, and the bits are the
--- moves.
+-- `engine_remote::to_remote` meets its contract: its test is the rule's, and its bits move a device as the rule's pairs do.
 use borrow.Author.Needs.{needs}
-use mathlib.Core.Path.{ap, _∙_}
+use mathlib.Core.Path.{refl, _∙_}
 use native.Mathlib.Omega.{arith}
 use Rattle.device.specs.Device.{LOCS, REMS, LWLS, RWLS}
-use Rattle.device.specs.Change.{remoting}
-use Rattle.device.specs.Remote.{toRemote}
+use Rattle.device.specs.Choose.{choose}
+use Rattle.device.specs.Remote.{moves, toRemote}
 use Rattle.device.proofs.Arms.{arms, when-eq}
 use Rattle.record.specs.Record.{deviceOf}
-use Rattle.engine_remote.proofs.Moves.{made-remote, unmoved}
+use Rattle.engine_remote.proofs.Moves.{by-bits}
 use Rattle.engine_remote.proofs.to_remote.Statement.{statement}
 use Rattle.engine_remote.proofs.to_remote.Tie as tie
 
 returns : tie.Need-returns
-unfolding deviceOf toRemote
-returns c = (search needs, search arms)
+unfolding deviceOf toRemote moves choose
+returns c =
+    let n = c .before .before in
+    let i = n .before .before in
+    let d = deviceOf (i .before .before .before .args .rec .now) in (
+      n .bits .ensures .0,
+      when-eq _ _ (i .if1 .taken) (n .bits .ensures .1 ∙ by-bits 3 1 LOCS REMS LWLS RWLS refl (omega arith) (omega arith) d),
+    )
 
 returns-2 : tie.Need-returns-2
 unfolding deviceOf toRemote
-returns-2 c =
-    let n = c .before .before in
-    let i = n .before .before in
-    let j = i .before in
-    let b = j .before .before .before .before .args .rec .now in (
-      n .store .ensures .0,
-      when-eq _ _ (j .if1 .left) (n .store .ensures .1 ∙ ap (remoting (deviceOf b)) (made-remote _ (i .if2 .taken))),
-    )
-
-returns-3 : tie.Need-returns-3
-unfolding deviceOf toRemote
-returns-3 c =
-    let j = c .before in
-    let b = j .before .before .before .before .args .rec .now in (
-      search needs,
-      when-eq _ _ (j .if1 .left) (unmoved (deviceOf b) LOCS REMS LWLS RWLS (c .if2 .left) (omega arith) (omega arith)),
-    )
+returns-2 c = (search needs, search arms)
 
 pub to-remote-spec : {M : Type 1} → statement M
 unfolding deviceOf
-to-remote-spec =
-    tie.close
-    (tie.spec
-    (λ c. search needs)
-    (λ c. search needs)
-    returns
-    (λ c κs. search needs)
-    (λ c. search needs)
-    returns-2
-    returns-3)
+to-remote-spec = tie.close (tie.spec (λ c. search needs) (λ c κs. search needs) (λ c. search needs) returns returns-2)

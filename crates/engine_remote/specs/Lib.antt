@@ -1,0 +1,2 @@
+-- Remote and local by bits.
+pub mod Bits
