@@ -32,7 +32,7 @@ use Rattle.device.specs.Extended.{primaryIdle, primaryLost, extendedLad,
 use Rattle.device.specs.Take.{takesSimple, takesExtended, takes}
 use Rattle.device.specs.Sentences.{ShowsC1, Sending, CommandsGoOn, NoLadIs31, NoTadIs31, ConfiguredPassesAad}
 use Rattle.device.specs.Sentences.{OwnNotHanded, OwnNotPassed, OwnCompared, IdyGoesOn, ServiceShown, C1Kept}
-use Rattle.device.specs.Sentences.{Of, EndWhereAsked, EndOnlyAsked, LeavingZeroes, EventsReported}
+use Rattle.device.specs.Sentences.{Of, NoneOfItsOwn, EndWhereAsked, EndOnlyAsked, LeavingZeroes, EventsReported}
 use Rattle.device.specs.Sentences.{EventsChangeNothing, SameRemote, OthersLeaveRemote, IfcLeavesRemote}
 use Rattle.device.specs.Sentences.{OnlyEnabled, GtlOnlyListener, KeyOnlyUnlocked}
 use Rattle.device.specs.declared.Device.{Device}
@@ -214,6 +214,10 @@ end-where-asked =
 
 pub end-only-asked : EndOnlyAsked
 end-only-asked d f b c e = told d f .asked b c e
+
+pub none-of-its-own : NoneOfItsOwn
+none-of-its-own =
+    record { command = λ d f b. told d f .given b .command; aad = λ d f b. told d f .given b .aad }
 
 pub service-shown : ServiceShown
 service-shown d f b a s = told d f .shown b a s

@@ -3,7 +3,7 @@
 use Prim.Native.Nat.{ℕ, _+_, _≤_, _<_}
 use mathlib.Core.Path.{_≡_, refl, sym, ap, _∙_}
 use mathlib.Core.Logic.{_⊎_, inl, inr, ⊎-elim}
-use mathlib.Core.Bool.{Bool, true, _&&_, and-false}
+use mathlib.Core.Bool.{Bool, true, false, _&&_, _||_, and-false}
 use native.Mathlib.Omega.{arith}
 use native.Mathlib.Decide.{decLt}
 use lib.Dec.{eqb, ltb}
@@ -11,7 +11,7 @@ use borrow.Author.Tests.{eqb-true, ne-eqb, ltb-false}
 use Rattle.frame.specs.declared.Kind.the-variants.{End, Sdc, Get, Dcl, Aad, Aes}
 use Rattle.frame.specs.Messages.{kindAt, messages, firstIn, firstOf, codesIn, codesOf}
 use Rattle.frame.specs.Classes.{IsCommand}
-use Rattle.frame.specs.Decoding.{dab, end, hasC1, decoded}
+use Rattle.frame.specs.Decoding.{dab, end, idy, hasC1, decoded}
 use Rattle.frame.specs.declared.Message.{Message}
 use Rattle.frame.proofs.Rows.{within-kind}
 use Rattle.frame.proofs.Laws.{idy-kind}
@@ -46,6 +46,11 @@ use Rattle.device.proofs.Marked.{marked-kind, marked-asks}
 abbrev pub Left : Device → Device → Type 0
 Left d e = (e .talker ≡ d .talker → ⊥) → Zeroed e
 
+-- x is a command or an AAD only if f is
+pub record Given (f x : ℕ) : Type 0 where
+  pub command : IsCommand x → x ≡ f
+  pub aad : Of Aad x → Of Aad f
+
 -- d, given the frame f, does s
 pub record Told (d : Device) (f : ℕ) (s : Sent) : Type 0 where
   pub command : IsCommand f → s .frame ≡ f
@@ -55,6 +60,7 @@ pub record Told (d : Device) (f : ℕ) (s : Sent) : Type 0 where
   pub left : Sending d → Left d (s .device)
   pub shown : OfBytes d → s .device .service ≡ asking → ShowsService (s .frame) → ShowsC1 (s .frame)
   pub asked : OfBytes d → (d .choice ≡ endLast → ⊥) → Of End (s .frame) → Of End f × (d .talker ≤ addressed)
+  pub given : OfBytes d → Given f (s .frame)
 
 -- the cases of what is handed over, told apart by numbers
 abbrev case : Handed → ℕ
@@ -98,6 +104,36 @@ end-past f e = within-kind f 2 e (omega arith) .1
 no-end : (f : ℕ) → 0x400 ≤ f → Of End f → ⊥
 no-end f l e = omega (arith, end-past f e)
 
+-- what is neither
+neither : (f x : ℕ) → (IsCommand x → ⊥) → (Of Aad x → ⊥) → Given f x
+neither f x c a = record { command = λ i. absurd (c i); aad = λ e. absurd (a e) }
+
+-- an answer or a ready frame, but for AAD and what comes behind it
+answer-given : (f x : ℕ) → 0x500 ≤ x → x < 0x580 → Given f x
+answer-given f x l h = neither f x (λ c. omega (arith, c .past)) (λ e. omega (arith, (aad-codes x e) .0))
+
+-- no frame with C1 is among commands and ready frames,
+outer : (x : ℕ) → hasC1 (kindAt x) ≡ true → 0x400 ≤ x → x < 0x600 → ⊥
+unfolding hasC1 messages firstIn firstOf codesIn codesOf
+outer x t l h = go (eqb (kindAt x) dab) (eqb (kindAt x) end) (eqb (kindAt x) idy) refl refl refl t
+  where
+    here : (k : ℕ) → outside 0x400 0x600 k ≡ true → eqb (kindAt x) k ≡ true → ⊥
+    here k o e = elsewhere 0x400 0x600 x k l h o (eqb-true _ _ e)
+
+    go : (a b c : Bool) → eqb (kindAt x) dab ≡ a → eqb (kindAt x) end ≡ b → eqb (kindAt x) idy ≡ c →
+        (a || (b || c)) ≡ true → ⊥
+    go true b c p q r t = here dab refl p
+    go false true c p q r t = here end refl q
+    go false false true p q r t = here idy refl r
+    go false false false p q r t = let y : false ≡ true = t in let z : _≡_ {A = ℕ} 0 1 = cc in omega arith
+
+-- so a DAB, END or IDY is neither command nor AAD
+shown-given : (d : Device) (f : ℕ) (m : Message) → Shows m → Given f (marked d m)
+shown-given d f m i =
+    let o = outer (marked d m) (ap hasC1 (marked-kind d m i) ∙ i .free) in
+    neither f (marked d m) (λ c. o (c .first) (omega (arith, c .past)))
+    (λ e. let w = aad-codes (marked d m) e in o (omega (arith, w .0)) (omega (arith, w .1)))
+
 data-plain : (d : Device) → OfBytes d → (d .choice ≡ endLast → ⊥) → Of End (dataFrame d) → ⊥
 unfolding dataFrame choose hasC1
 data-plain d b n =
@@ -119,10 +155,21 @@ other-asks : (d : Device) → OfBytes d → d .service ≡ asking → ShowsC1 (o
 unfolding hasC1
 other-asks d b a = marked-asks d _ (reply dab (otherByte d) refl (other-small d b)) a
 
+data-given : (d : Device) (f : ℕ) → OfBytes d → Given f (dataFrame d)
+unfolding dataFrame hasC1
+data-given d f b =
+    let o = b .load (d .sent) in
+    chosen (Given f) (eqb (d .sent + 1) (d .loadlength) && eqb (d .choice) endLast) _ _
+    (λ e. shown-given d f _ (reply end _ refl o)) (λ e. shown-given d f _ (reply dab _ refl o))
+
+other-given : (d : Device) (f : ℕ) → OfBytes d → Given f (otherFrame d)
+unfolding hasC1
+other-given d f b = shown-given d f _ (reply dab (otherByte d) refl (other-small d b))
+
 -- ---- commands, and NRD
 
 module _ (d : Device) where
-  remote-talker : toRemote d .talker ≡ d .talker
+  pub remote-talker : toRemote d .talker ≡ d .talker
   unfolding toRemote
   remote-talker = chosen (λ (x : Device). x .talker ≡ d .talker) (eqb (d .enabled) 1) _ d (λ e. refl) (λ e. refl)
 
@@ -235,11 +282,12 @@ module _ (d : Device) (f : ℕ) (n : IsCommand f → ⊥) where
         left = λ s. stays d d refl;
         shown = λ b a s. marked-asks d m i a;
         asked = λ b c e. p (sym (marked-kind d m i) ∙ e);
+        given = λ b. shown-given d f m i;
       }
 
   -- the device e, which is d or is made of d, answers or replies
   module _ (e : Device) where
-    stops-told : (x : ℕ) → 0x400 ≤ x → x < 0x600 → Told d f (stops e x)
+    stops-told : (x : ℕ) → 0x500 ≤ x → x < 0x580 → Told d f (stops e x)
     stops-told x l h =
         record {
           command = λ c. absurd (n c);
@@ -247,15 +295,17 @@ module _ (d : Device) (f : ℕ) (n : IsCommand f → ⊥) where
           cleared = apart (λ e. omega arith);
           triggered = apart (λ e. omega arith);
           left = λ s. zeroes d e addressed;
-          shown = λ b a s. absurd (no-service x l h s);
-          asked = λ b c e. absurd (no-end x l e);
+          shown = λ b a s. absurd (no-service x (omega arith) (omega arith) s);
+          asked = λ b c e. absurd (no-end x (omega arith) e);
+          given = λ b. answer-given f x l h;
         }
 
     module _ (same : Sending d → e .talker ≡ d .talker) (bytes : OfBytes d → OfBytes e) (q : e .choice ≡ d .choice)
       where
         counting-told : (x s r : ℕ) → (OfBytes e → e .service ≡ asking → ShowsC1 x) →
-            (OfBytes e → (e .choice ≡ endLast → ⊥) → Of End x → ⊥) → Told d f (sends (counting e x s r) x)
-        counting-told x s r h o =
+            (OfBytes e → (e .choice ≡ endLast → ⊥) → Of End x → ⊥) → (OfBytes e → Given f x) →
+            Told d f (sends (counting e x s r) x)
+        counting-told x s r h o g =
             record {
               command = λ c. absurd (n c);
               unhanded = λ s b e. apart (λ z. omega arith);
@@ -264,15 +314,16 @@ module _ (d : Device) (f : ℕ) (n : IsCommand f → ⊥) where
               left = λ s. stays d _ (same s);
               shown = λ b a s. h (bytes b) a;
               asked = λ b c i. absurd (o (bytes b) (λ u. c (sym q ∙ u)) i);
+              given = λ b. g (bytes b);
             }
 
         data-told : Told d f (sendsData e)
         unfolding sendsData
-        data-told = counting-told (dataFrame e) _ _ (data-asks e) (data-plain e)
+        data-told = counting-told (dataFrame e) _ _ (data-asks e) (data-plain e) (data-given e f)
 
         other-told : Told d f (sendsOther e)
         unfolding sendsOther
-        other-told = counting-told (otherFrame e) _ _ (other-asks e) (λ b c. other-plain e b)
+        other-told = counting-told (otherFrame e) _ _ (other-asks e) (λ b c. other-plain e b) (other-given e f)
 
         continues-told : Told d f (continues e)
         unfolding continues
@@ -316,6 +367,7 @@ module _ (d : Device) (f : ℕ) (q : ShowsService f → ⊥) where
         left = λ s. l;
         shown = λ b a s. absurd (q s);
         asked = λ b c e. absurd (q (inl (record { past = end-past f e })));
+        given = λ b. record { command = λ c. refl; aad = λ e. e };
       }
 
   still : Told d f (sends d f)
@@ -333,6 +385,7 @@ module _ (d : Device) (f : ℕ) (q : ShowsService f → ⊥) where
         left = λ s. stays d d refl;
         shown = λ b a s. absurd (q s);
         asked = λ b c e. absurd (q (inl (record { past = end-past f e })));
+        given = λ b. record { command = λ c. refl; aad = λ e. e };
       }
 
   dcl-told : Of Dcl f → Told d f (reports d f Clear)
@@ -351,8 +404,9 @@ module _ (d : Device) (f : ℕ) (q : ShowsService f → ⊥) where
       (λ l. events Trigger (λ z. omega arith) (apart (λ e. omega arith)) (λ h. (k, eqb-true _ _ l))) (λ l. still)
 
   -- an address is taken, and the frame plus one goes on
-  taken : (e : Device) → e .talker ≡ d .talker → 0x500 ≤ f → f < 0x5ff → Told d f (sends e (f + 1))
-  taken e t l h =
+  taken : (e : Device) → e .talker ≡ d .talker → 0x500 ≤ f → f < 0x5ff → (Of Aad (f + 1) → Of Aad f) →
+      Told d f (sends e (f + 1))
+  taken e t l h g =
       record {
         command = λ c. omega (arith, c .past);
         unhanded = λ s b e. apart (λ z. omega arith);
@@ -361,6 +415,7 @@ module _ (d : Device) (f : ℕ) (q : ShowsService f → ⊥) where
         left = λ s. stays d e t;
         shown = λ b a s. absurd (no-service (f + 1) (omega arith) (omega arith) s);
         asked = λ b c e. absurd (no-end (f + 1) (omega arith) e);
+        given = λ b. record { command = λ c. omega (arith, c .past); aad = g };
       }
 
   aad-told : Of Aad f → (a : ℕ) → Told d f (aad d f a)
@@ -368,14 +423,16 @@ module _ (d : Device) (f : ℕ) (q : ShowsService f → ⊥) where
   aad-told k a =
       let w = aad-codes f k in
       chosen (Told d f) (eqb (d .configured) 0) _ _
-      (λ c. chosen (Told d f) (has d autoAddress) _ _ (λ h. taken _ refl (omega arith) (omega arith)) (λ h. still))
+      (λ c. chosen (Told d f) (has d autoAddress) _ _ (λ h. taken _ refl (omega arith) (omega arith) (λ e. k))
+      (λ h. still))
       (λ c. still)
 
   aes-told : Of Aes f → (a : ℕ) → Told d f (aes d f a)
   unfolding aes
   aes-told k a =
       let w = aes-codes f k in
-      chosen (Told d f) (eqb (d .configured) 0) _ _ (λ c. taken _ refl (omega arith) (omega arith)) (λ c. still)
+      chosen (Told d f) (eqb (d .configured) 0) _ _
+      (λ c. taken _ refl (omega arith) (omega arith) (λ e. omega (arith, (aad-codes (f + 1) e) .1))) (λ c. still)
 
   module _ (n : IsCommand f → ⊥) where
     -- only an addressed device starts a reply, and that one is not sending
@@ -444,6 +501,7 @@ flags-told d f t =
       left = t .left;
       shown = λ b. t .shown (bytes b);
       asked = λ b. t .asked (bytes b);
+      given = λ b. t .given (bytes b);
     }
   where
     bytes : OfBytes d → OfBytes (primaryIdle d)

@@ -3,7 +3,7 @@
 -- no extended device's own (02, i), and of a simple one nothing. Proved in proofs/Sentences.antt.
 use Prim.Native.Nat.{ℕ, _+_, _≤_, _<_}
 use mathlib.Core.Path.{_≡_}
-use mathlib.Core.Bool.{true}
+use mathlib.Core.Bool.{true, false}
 use mathlib.Core.Logic.{_⊎_}
 use lib.Dec.{eqb}
 use lib.Bits.{bitOr}
@@ -15,7 +15,7 @@ use Rattle.frame.specs.Classes.{IsData, IsCommand, IsIdentify}
 use Rattle.frame.specs.Decoding.{decoded, frameOf}
 use Rattle.device.specs.Choose.{choose}
 use Rattle.device.specs.Device.{sendData, idle, addressed, sendingData, asking, REMS, endLast, noAddress}
-use Rattle.device.specs.Device.{has}
+use Rattle.device.specs.Device.{extended, has, hasFurther}
 use Rattle.device.specs.Change.{talking}
 use Rattle.device.specs.Poll.{unassigned, answer}
 use Rattle.device.specs.Reply.{eto, ete, sends, withC1, stops, continues}
@@ -49,6 +49,12 @@ NoLadIs31 = (d : Device) (f : ℕ) → d .address ≡ noAddress → Of Lad f →
 abbrev pub NoTadIs31 : Type 0
 NoTadIs31 =
     (d : Device) (f : ℕ) → d .address ≡ noAddress → Of Tad f → takes d f .device ≡ talking (primaryLost d) idle
+
+-- A simple device that is talker idle stays so under every frame but TAD.
+abbrev pub IdleStays : Type 0
+IdleStays =
+    (d : Device) (f : ℕ) → hasFurther d extended ≡ false → d .talker ≡ idle → (Of Tad f → ⊥) →
+    takes d f .device .talker ≡ idle
 
 -- A configured device leaves AAD alone.
 abbrev pub ConfiguredPassesAad : Type 0
@@ -97,6 +103,12 @@ pub record OfBytes (d : Device) : Type 0 where
   pub accessory : d .accessory < 256
   pub id : (i : ℕ) → getD (d .id) i 0 < 256
   pub load : (i : ℕ) → getD (d .load) i 0 < 256
+
+-- A device makes no command of its own: one that it sends is the frame that it took. Nor does it make an AAD of any
+-- frame but an AAD.
+pub record NoneOfItsOwn : Type 0 where
+  pub command : (d : Device) (f : ℕ) → OfBytes d → IsCommand (takes d f .frame) → takes d f .frame ≡ f
+  pub aad : (d : Device) (f : ℕ) → OfBytes d → Of Aad (takes d f .frame) → Of Aad f
 
 -- one byte of the data is left, and END is chosen for it (02, h)
 pub record EndLeft (d : Device) : Type 0 where
