@@ -15,6 +15,7 @@ pub mod Second
 pub mod Rendered
 pub mod Lined
 pub mod Third
+pub mod Flowing
 pub mod Alone
 pub mod Witness
 pub mod Polled

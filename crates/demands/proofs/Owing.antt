@@ -33,7 +33,7 @@ use Rattle.demands.specs.Histories.{Step, call, putBy, hopsBy, areaLeft,
 use Rattle.demands.specs.Histories.{calls, lineOf}
 use Rattle.demands.specs.Demands.{Judged, hopsOwed, OwedAfterHop, OwedAfterDrain, OwedAfterPut, OwedAfterTake}
 use Rattle.demands.specs.Demands.{OwedAfterLocalCall, OwedAfterRefusal, OwedAfterSetUp, OwedAfterOpening}
-use Rattle.demands.specs.Demands.{StaysJudged, OwedAtMost, OwedOver, HopsAtMost, Progress, hop-accepted}
+use Rattle.demands.specs.Demands.{OwedAtMost, OwedOver, HopsAtMost, Progress, hop-accepted}
 use Rattle.demands.specs.Demands.{take-accepted, NeverStuck}
 use Rattle.demands.proofs.Lengths.{shape-is}
 use Rattle.demands.proofs.Tests.{size-is}
@@ -42,7 +42,7 @@ use Rattle.demands.proofs.Away.{whole}
 use Rattle.demands.proofs.Bridge.{toLoop}
 use Rattle.demands.proofs.Settled.{onLoop, fair, follows, acts-on}
 use Rattle.demands.proofs.Rendered.{R, area-is, good-is, puts-are, hops-are}
-use Rattle.demands.proofs.Lined.{owed-is, devices-are, line-judged, loop-is, line-good, line-area}
+use Rattle.demands.proofs.Lined.{owed-is, devices-are, loop-is, line-good, line-area}
 use Rattle.demands.proofs.Third.{ds, fresh-good, fresh-area}
 
 -- ---- a history
@@ -56,13 +56,6 @@ module _ (l : line.Loop papers) (good : Sound-loop (toLoop l)) (ss : List Step) 
       ap hopsOwed (area-is l good ss) ∙ owed-is end (good-is l good ss) in
       rw (hops-are l good ss, e, owed-is l good, puts-are l good ss, devices-are l good)
       (owed-law papers l end (callsOf R ss) ((line.run l (callsOf R ss)) .1) refl)
-
-pub stays-judged : StaysJudged
-stays-judged a ss j =
-    let good = good-is (lineOf a) (line-good a j) ss in
-    let left : areaLeft a ss ≡ areaOf (toLoop ((line.run (lineOf a) (callsOf R ss)) .0)) =
-    rw (line-area a j) at (area-is (lineOf a) (line-good a j) ss) in
-    rw left (line-judged ((line.run (lineOf a) (callsOf R ss)) .0) good)
 
 pub owed-over : OwedOver
 owed-over a ss j = omega (arith, rw (line-area a j) at (line-over (lineOf a) (line-good a j) ss))

@@ -1,13 +1,12 @@
 -- Polls in any order: each link carries one stream of IDYs, and a device turns the stream of its link into that of the
 -- next by its own turns alone, its answer or-ed to each. An IDY leaves a device as it was.
 use Prim.Native.Nat.{ℕ, suc}
-use mathlib.Core.Path.{_≡_, refl, sym, ap, _∙_, fun-ext}
+use mathlib.Core.Path.{_≡_, refl, sym, ap, _∙_}
 use mathlib.Core.Bool.{Bool, true, false, cond}
 use mathlib.Core.Option.{none, some}
 use mathlib.Core.List.{List, [], _∷_, _++_, map, append-nil}
 use lib.Bits.{bitOr}
 use lib.Dec.{eqb}
-use lib.ListN.{getD}
 use Rattle.frame.specs.Classes.{IsIdentify}
 use Rattle.device.specs.Poll.{answer}
 use Rattle.device.specs.PollSentences.{polledBy}
@@ -18,28 +17,22 @@ use Rattle.device.proofs.PollSentences.{leaves-poll, idy-bits, idy-c1, shared-o
 use Rattle.device.proofs.PollTable.{note-5, rack-reads}
 use Rattle.record.proofs.Laws.{any-poll, no-poll}
 use Rattle.record_local.specs.Local.{Called}
-use Rattle.area.specs.Loop.{Loop, loopOf, areaOf, link, Sound-loop}
-use Rattle.area.proofs.Laws.{loop-back}
 use Rattle.order.specs.Line as line
 use Rattle.order.specs.Flat as flat
-use Rattle.order.specs.History.{Turn, hops, does, callsIn, puts, taken, turns}
+use Rattle.order.specs.History.{Turn, hops, does, callsIn}
 use Rattle.order.specs.RightRound.{before, after as afterTurn}
-use Rattle.order.specs.Through.{Every, callsOf}
-use Rattle.order.proofs.Idle.{Empty, idle-empty}
-use Rattle.order.proofs.Streams.{Ran, stays, hopping, acting, Flows, at-tail, at-cell, Steps, run-ok, steps-flows}
+use Rattle.order.specs.Through.{Every}
+use Rattle.order.proofs.Idle.{Empty}
+use Rattle.order.proofs.Streams.{Ran, stays, hopping, acting, Flows, at-tail, at-cell}
 use Rattle.demands.specs.Calls.{calledBy}
-use Rattle.demands.specs.Histories.{Step, acceptedBy, papers, lineOf, areaLeft, framesPut, turnsOf}
-use Rattle.demands.specs.Demands.{AllEmpty, answering, answeringAll, bitsOf, Polls, PolledRound}
-use Rattle.demands.specs.Demands.{AsTheyStood, ParallelPoll}
-use Rattle.demands.proofs.Bridge.{toLoop}
-use Rattle.demands.proofs.Rendered.{R, puts-are, taken-are, turns-are}
-use Rattle.demands.proofs.Lined.{line-good, line-area}
-use Rattle.demands.proofs.Third.{ends, left}
+use Rattle.demands.specs.Histories.{Step, acceptedBy, papers, areaLeft}
+use Rattle.demands.specs.Demands.{answering, answeringAll, bitsOf, Polls, PolledRound, AsTheyStood, ParallelPoll}
+use Rattle.demands.proofs.Flowing.{line-states, line-empty, left-judged, flows}
 
 -- ---- one device
 
 -- what an accepted call leaves
-accepted : (c : Called) {e : Device} → acceptedBy c ≡ some e → e ≡ c .device
+pub accepted : (c : Called) {e : Device} → acceptedBy c ≡ some e → e ≡ c .device
 accepted c h = go (eqb (c .refusal) 0) h
   where
     go : (t : Bool) {e : Device} → cond t (some (c .device)) none ≡ some e → e ≡ c .device
@@ -85,48 +78,12 @@ flow-polls (at-cell {X = X} {q = q} {q′ = q′} xs ys e a k) z z′ u =
     let h = flow-polls k (z .1) (z′ .1) (g .idys) in
     record { idys = h .idys; bits = rw (g .bits, x) at (h .bits) }
 
-links-empty : (l : line.Loop papers) → ((j : ℕ) → getD (flat.linksOf l) j [] ≡ []) → Empty l
-links-empty (line.tail q) h = h 0
-links-empty (line.cell q s r) h = (h 0, links-empty r (λ j. h (suc j)))
-
--- ---- histories on a line's area
-
-module _ (l : line.Loop papers) (good : Sound-loop (toLoop l)) (ss : List Step) (empty : AllEmpty (areaOf (toLoop l)))
-    (again : AllEmpty (areaLeft (areaOf (toLoop l)) ss)) (idys : Every IsIdentify (framesPut (areaOf (toLoop l)) ss))
-  where
-    empty-line : Empty l
-    empty-line = links-empty l (λ j. sym (ap (λ (m : Loop). link m j) (loop-back (toLoop l) good)) ∙ empty j)
-
-    steps : Steps l ((line.run l (callsOf R ss)) .1) (line.idle (left l good ss again))
-    steps = rw (ends l good ss again) at (run-ok l (callsOf R ss))
-
-    gathered : Gathered (taken ((line.run l (callsOf R ss)) .1))
-        (answeringAll (flat.statesOf l) (turns ((line.run l (callsOf R ss)) .1))
-        (map bitsOf (puts ((line.run l (callsOf R ss)) .1))))
-    gathered =
-        flow-polls (steps-flows steps) empty-line (idle-empty papers (left l good ss again))
-        (rw (puts-are l good ss) at idys)
-
-    -- the devices are the line's
-    devices : loopOf (areaOf (toLoop l)) .devices ≡ flat.statesOf l
-    devices = ap (λ (m : Loop). m .devices) (loop-back (toLoop l) good)
-
-    turned : _≡_ {A = ℕ → List (Turn papers)} (turnsOf (areaOf (toLoop l)) ss) (turns ((line.run l (callsOf R ss)) .1))
-    turned = fun-ext (turns-are l good ss)
-
-    round : PolledRound (areaOf (toLoop l)) ss
-    round =
-        record {
-          still-idys = rw (taken-are l good ss) (gathered .idys);
-          gathered = rw (taken-are l good ss, puts-are l good ss, devices, turned) (gathered .bits);
-        }
-
 polled-round : (a : List ℕ) (ss : List Step) → Polls a ss → PolledRound a ss
 polled-round a ss p =
     let j = p .judged in
-    rw (line-area a j) at
-    (round (lineOf a) (line-good a j) ss (rw (line-area a j) (p .empty)) (rw (line-area a j) (p .empty-again))
-    (rw (line-area a j) (p .idys)))
+    let g = flow-polls (flows a j ss) (line-empty a j (p .empty))
+    (line-empty (areaLeft a ss) (left-judged a j ss) (p .empty-again)) (p .idys) in
+    record { still-idys = g .idys; gathered = rw (line-states a j) at (g .bits) }
 
 -- ---- without local calls
 
