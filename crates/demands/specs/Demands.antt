@@ -1,6 +1,7 @@
 -- The three demands on the model, and what 02 asks of the hops owed (k), of saved loops (a), of the limit on devices
 -- (j), of END by choice (h), of clear, trigger, remote and local (d), of parallel poll (f), of extended addresses (i)
--- and of a plain engine (l), over the very definitions that the contracts of the exported functions cite.
+-- and of a plain engine (l), over the very definitions that the contracts of the exported functions cite. No two meters
+-- at one address (e) is a page of its own over the same histories: addresses' Addresses.
 -- It leans on Calls, Conditions, Drains, Histories (the crate teeth says what it shuts out); frame's Messages,
 -- Classes, Decoding, Coding, Laws, Bits; coding's Coding; poll_count's Count; device's Sent, Sentences, RemoteTable,
 -- PollSentences, PollTable, ExtendedSentences, ExtendedTable, and Take with the rules that it names; record_local's
