@@ -1,5 +1,7 @@
 /* A bench script: the exchanged meter. Three meters are given addresses and read, one is exchanged on the live loop,
-   and the address frame goes round again. At the end a meter without auto address shows what that ability is for. */
+   and the address frame goes round again. At the end a meter without auto address shows what that ability is for.
+   Where it relies on no two meters having one address, it names the theorem that says so: no-two-meters, stated in
+   crates/addresses/specs/Addresses.antt. */
 #include "pil.h"
 #include "pil_names.h"
 
@@ -134,6 +136,8 @@ static void three_meters(void)
     load(0, "1.503");
     load(1, "2.718");
     load(2, "9.807");
+    /* By no-two-meters each has its own address from here on, 1 to 3, and one meter at most answers a talk address: all
+       have auto address, AAU and then AAD 1 go right round, and 1 + METERS is 31 at most. */
     send_frame(PIL_KIND_AAU, 0);
     give_addresses(1);
     for (unsigned address = 1; address <= METERS; address++)
@@ -141,7 +145,8 @@ static void three_meters(void)
 }
 
 /* The new meter has no address and alone takes one, since a configured meter lets AAD go by. So AAD is sent with the
-   next free address; AAD 1 would give it the 1 that device 0 has. */
+   next free address; AAD 1 would give it the 1 that device 0 has. A record that is written over is no call, so till the
+   next AAU that is for the bench to see to: no-two-meters speaks of calls alone. */
 static void one_exchanged(void)
 {
     exchange(1, METER, PIL_NO_ADDRESS);
@@ -152,13 +157,15 @@ static void one_exchanged(void)
     read_address(1);
     read_address(4);
     read_address(3);
-    /* To count from 1 again, AAU first: all give up their addresses, and all take new ones. */
+    /* To count from 1 again, AAU first: all give up their addresses, and all take new ones. From here on no-two-meters
+       holds again, whatever the loop went through. */
     send_frame(PIL_KIND_AAU, 0);
     give_addresses(1);
 }
 
 /* A meter without auto address keeps the 2 of its switch and is not counted by AAD: device 2 gets 2 as well. Both take
-   themselves for the talker; the first on the loop answers, the other is never heard. */
+   themselves for the talker; the first on the loop answers, the other is never heard. So no-two-meters asks for auto
+   address in every device. */
 static void without_auto_address(void)
 {
     exchange(0, OLD_METER, 2);
