@@ -71,9 +71,9 @@ pub record OnBytes : Type 0 where
   -- which AAD cannot know of: TAD 1 makes both talkers.
   pub without-ability : Shows (loopWith meter switched1) 1 1 (1 ∷ 1 ∷ []) (aad 2) (1 ∷ 1 ∷ [])
   -- k + n is 32, as with AAD 1 in a loop of 31: the first takes the last address, 30, and sends IAA, which gives none.
-  -- The other is left with its fixed address; where that is 31 it has none, and no TAD reaches it;
+  -- The other is left with its fixed address. Where that is 31 it has none, and no TAD is its own (device, NoTadIs31);
   pub left-without : Shows (loopWith meter meter) 30 30 (30 ∷ noAddress ∷ []) (aad noAddress) (1 ∷ 0 ∷ [])
-  -- and where it is 30, TAD 30 makes both talkers.
+  -- where it is 30, TAD 30 makes both talkers.
   pub one-too-many : Shows (loopWith meter meter30) 30 30 (30 ∷ 30 ∷ []) (aad noAddress) (1 ∷ 1 ∷ [])
 
 -- ---- The accident: a device that takes AAD again
@@ -105,6 +105,6 @@ pub record Accident : Type 0 where
   -- were.
   pub two-of-a-kind : (d e : Device) (a b k : ℕ) → k < noAddress → At a d → At b e →
       let s = takesAgain (λ f. f) d (aad k) in At k (s .device) × At k (takesAgain (λ f. f) e (s .frame) .device)
-  -- Then one TAD addresses both as talkers: two meters, if both can talk, where a data sheet has one.
+  -- Then TAD k makes both the talker, if both can talk: a bench that reads one meter after the other reads one twice.
   pub both-talk : (d e : Device) (k : ℕ) → k < noAddress → At k d → At k e → talks d ≡ true → talks e ≡ true →
       (takes d (tad k) .device .talker ≡ addressed) × (takes e (takes d (tad k) .frame) .device .talker ≡ addressed)

@@ -46,7 +46,7 @@ use Rattle.device.proofs.Marked.{marked-kind, marked-asks}
 abbrev pub Left : Device → Device → Type 0
 Left d e = (e .talker ≡ d .talker → ⊥) → Zeroed e
 
--- x is a command or an AAD only if f is
+-- x is a command only if it is f, and an AAD only if f is one
 pub record Given (f x : ℕ) : Type 0 where
   pub command : IsCommand x → x ≡ f
   pub aad : Of Aad x → Of Aad f
@@ -104,7 +104,7 @@ end-past f e = within-kind f 2 e (omega arith) .1
 no-end : (f : ℕ) → 0x400 ≤ f → Of End f → ⊥
 no-end f l e = omega (arith, end-past f e)
 
--- what is neither
+-- what is neither a command nor an AAD
 neither : (f x : ℕ) → (IsCommand x → ⊥) → (Of Aad x → ⊥) → Given f x
 neither f x c a = record { command = λ i. absurd (c i); aad = λ e. absurd (a e) }
 

@@ -1,6 +1,7 @@
 -- Sentences of 01, "What a device does with a frame", and of 02, b, d, f and h, on every frame that they speak of and
 -- every device of either variant, sound or not, but for those that ask for bytes; `primaryLost` says that a command is
--- no extended device's own (02, i), and of a simple one nothing. Proved in proofs/Sentences.antt.
+-- no extended device's own (02, i), and of a simple one nothing. Proved in proofs/Sentences.antt and, IdleStays, in
+-- proofs/Idle.antt.
 use Prim.Native.Nat.{ℕ, _+_, _≤_, _<_}
 use mathlib.Core.Path.{_≡_}
 use mathlib.Core.Bool.{true, false}
