@@ -773,9 +773,9 @@ static void listen_address(uint8_t *r, unsigned address)
 
 static void talk_address(uint8_t *r, unsigned address)
 {
-    if (address == r[PIL_RECORD_ADDRESS] && able_to_talk(r))
+    if ((address == r[PIL_RECORD_ADDRESS] || MODEL_FAULT == 265) && able_to_talk(r))
         addressed_to_talk(r);
-    else
+    else if (MODEL_FAULT != 264)
         stop_sending(r, PIL_TALKER_IDLE);
 }
 
@@ -794,22 +794,24 @@ static void interface_clear(uint8_t *r)
 
 static void auto_address_unconfigure(uint8_t *r)
 {
-    if (r[PIL_RECORD_ABILITIES] & PIL_ABILITY_AUTO_ADDRESS) {
+    if ((r[PIL_RECORD_ABILITIES] & PIL_ABILITY_AUTO_ADDRESS) && MODEL_FAULT != 261) {
         r[PIL_RECORD_CONFIGURED] = 0;
         r[PIL_RECORD_ADDRESS] = r[PIL_RECORD_FIXED];
     }
 }
 
-/* Gives the frame sent. */
+/* Gives the frame sent. With fault 1 AAD is taken again and counted up, with fault 263 taken again and sent on. */
 static unsigned auto_address(uint8_t *r, unsigned address, unsigned frame)
 {
+    if (r[PIL_RECORD_CONFIGURED] == 1 && MODEL_FAULT == 263)
+        r[PIL_RECORD_ADDRESS] = (uint8_t)address;
     if (r[PIL_RECORD_CONFIGURED] && MODEL_FAULT != 1)
         return frame;
     if (!(r[PIL_RECORD_ABILITIES] & PIL_ABILITY_AUTO_ADDRESS) && (MODEL_FAULT != 205 || !extended(r)))
         return frame;
     r[PIL_RECORD_ADDRESS] = (uint8_t)address;
     r[PIL_RECORD_CONFIGURED] = 1;
-    return frame + 1;
+    return frame + (MODEL_FAULT != 262);
 }
 
 /* Extended addresses: 02, i, and 001, 2.7, 2.8 and 2.15. The flag of byte 20 is LPAS, that of byte 21 TPAS: the primary

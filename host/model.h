@@ -1,5 +1,5 @@
 /* An independent model of the papers 01 and 02 in plain C: the calls of pil.h under names of its own, over the same
-   area, and the lister. Compiled with MODEL_FAULT 1 to 260 it has a deliberate fault, for checks of the comparison. */
+   area, and the lister. Compiled with MODEL_FAULT 1 to 265 it has a deliberate fault, for checks of the comparison. */
 #ifndef MODEL_H
 #define MODEL_H
 
