@@ -1,5 +1,7 @@
 // Whether a device's addresses are sound, judged where its record lies (01, "Sound means"; 02, i): a test a clause, and
 // then those of its variant.
+#![tactic(auto)]
+
 ghost use Rattle.std.specs.Prelude.{◌≡◌, length};
 ghost use Rattle.record.specs.Record.{record_size, device_of};
 ghost use Rattle.record.specs.Sound.{unconfigured_fixed, configured_able, simple_right, unconfigured_second};

@@ -1,4 +1,6 @@
 // The lent area of a loop (01, The lent area): looked into and changed in the loop's terms.
+#![tactic(auto)]
+
 pub mod change;
 mod link;
 pub mod lookup;
@@ -34,21 +36,21 @@ pub const SHAPE: u8 = 1;
 pub const UNSOUND: u8 = 2;
 
 // A link's oldest frame.
-#[derive(Drop)]
+#[derive(Clone, Copy)]
 pub enum Oldest {
     Frame(u16),
     Empty,
 }
 
 // A link's room for one more frame: behind how many it goes.
-#[derive(Drop)]
+#[derive(Clone, Copy)]
 pub enum Room {
     Behind(usize),
     Full,
 }
 
 // A device's place in the loop.
-#[derive(Drop)]
+#[derive(Clone, Copy)]
 pub enum Place {
     At(usize),
     NoDevice,

@@ -47,7 +47,7 @@ pub fn drop_oldest(link: &mut [u8])
         0,
         0,
     ];
-    bytes::copy(&rest, link);
+    byte_runs::copy(&rest, link);
 }
 
 // A link with one frame more, behind as many as `room_in` said.

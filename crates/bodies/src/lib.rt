@@ -1,4 +1,6 @@
 // The area that a save holds: judged in its place, body by body, and read.
+#![tactic(auto)]
+
 ghost use Rattle.std.specs.Prelude.{◌≡◌, map, ◌+◌, ◌*◌, ◌≤◌, length};
 ghost use Rattle.record.specs.Record.{record_size};
 ghost use Rattle.area.specs.Sizes.{header_size, area_size};

@@ -1,4 +1,6 @@
 // Command bytes of the parallel bus as frames of the loop, and back (02, m): what both calls answer, and the codes.
+#![tactic(auto)]
+
 ghost use Rattle.std.specs.Prelude.{◌≡◌};
 ghost use Rattle.bus.specs.Codes.{has_command, has_byte};
 
@@ -9,7 +11,7 @@ pub mod import;
 
 // A refusal, 0 for none, and with 11 the place of the first byte or frame without a match.
 #[repr(C)]
-#[derive(Drop)]
+#[derive(Clone, Copy)]
 pub struct MatchAnswer {
     pub place: u64,
     pub refusal: u8,

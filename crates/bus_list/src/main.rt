@@ -1,5 +1,7 @@
 // Reads command bytes of the parallel bus from standard input, and writes their frames to standard output as lines of a
 // script; what is wrong with a row it says on standard error.
+#![tactic(auto)]
+
 ghost use Rattle.std.specs.Prelude.{◌≤◌, length};
 ghost use Rattle.bus_script.specs.Listing.{text_room};
 

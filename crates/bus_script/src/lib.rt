@@ -1,4 +1,6 @@
 // A row of command bytes as lines of a script, in a lent buffer (02, m).
+#![tactic(auto)]
+
 ghost use Rattle.std.specs.Prelude.{◌*◌, ◌≤◌, length};
 ghost use Rattle.text.specs.Out.{script_size};
 ghost use Rattle.text.specs.Write.{Wrote};

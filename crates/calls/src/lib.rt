@@ -1,5 +1,7 @@
 // What the calls answer to a caller in C, and the refusals that they give of themselves; those of an area, a frame and
 // a device stand in their crates. What each call does is said in specs/, and done in the crates above.
+#![tactic(auto)]
+
 pub const NO_DEVICE: u8 = 3;
 
 pub const EMPTY: u8 = 5;
@@ -15,7 +17,7 @@ pub const TRIGGER: u8 = 2;
 
 // The frame sent; where `handed` is 1, the byte handed with its end bit; and the event.
 #[repr(C)]
-#[derive(Drop)]
+#[derive(Clone, Copy)]
 pub struct HopAnswer {
     pub frame: u16,
     pub refusal: u8,
@@ -27,7 +29,7 @@ pub struct HopAnswer {
 
 // The frame taken.
 #[repr(C)]
-#[derive(Drop)]
+#[derive(Clone, Copy)]
 pub struct TakeAnswer {
     pub frame: u16,
     pub refusal: u8,
@@ -36,7 +38,7 @@ pub struct TakeAnswer {
 // The hops made and why there are no more; for reason 2 the device, the byte handed to it and its end bit, for reason 3
 // the device and, as the byte, the event.
 #[repr(C)]
-#[derive(Drop)]
+#[derive(Clone, Copy)]
 pub struct DrainAnswer {
     pub hops: u32,
     pub refusal: u8,
@@ -48,7 +50,7 @@ pub struct DrainAnswer {
 
 // The hops that the frames in the links still owe.
 #[repr(C)]
-#[derive(Drop)]
+#[derive(Clone, Copy)]
 pub struct OwedAnswer {
     pub hops: u32,
     pub refusal: u8,

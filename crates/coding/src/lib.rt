@@ -1,4 +1,6 @@
 // The decoder and the encoder in the terms of a caller in C: any numbers in, a refusal or a code out.
+#![tactic(auto)]
+
 ghost use Rattle.std.specs.Prelude.{◌≡◌};
 ghost use Rattle.coding.specs.Coding.{no_decoding, decode_answer, no_encoding, encode_answer};
 
@@ -6,7 +8,7 @@ use frame::{BAD_FRAME, Decoded, Encoded};
 
 // A frame's kind, its offset in the kind, and C1.
 #[repr(C)]
-#[derive(Drop)]
+#[derive(Clone, Copy)]
 pub struct DecodeAnswer {
     pub offset: u16,
     pub refusal: u8,
@@ -16,7 +18,7 @@ pub struct DecodeAnswer {
 
 // The frame of a kind, an offset and a C1.
 #[repr(C)]
-#[derive(Drop)]
+#[derive(Clone, Copy)]
 pub struct EncodeAnswer {
     pub frame: u16,
     pub refusal: u8,

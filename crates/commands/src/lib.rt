@@ -1,5 +1,7 @@
 // Commands (01, What a device does with a frame; 02, d and f): each goes on unchanged, with the state after it and the
 // clear or trigger that it is.
+#![tactic(auto)]
+
 ghost use Rattle.std.specs.Prelude.{◌≡◌, length};
 ghost use Rattle.device.specs.Clear.{reports, to_listener};
 ghost use Rattle.device.specs.Commands.{lad, tad, aau};

@@ -1,5 +1,7 @@
 // A bench conversation over three devices, after the sequences of 001's section 5.5: power on, addresses assigned, a
 // data transfer that the controller interrupts with NRD and takes up again, and a serial poll.
+#![tactic(auto)]
+
 use print::{decimal, hex, text};
 
 // A meter, a printer, another meter: send data, status, auto address and service request; listen and auto address.

@@ -1,4 +1,6 @@
 // Data or end, and identify (01, What a device does with a frame; 02, b, f and g).
+#![tactic(auto)]
+
 ghost use Rattle.std.specs.Prelude.{◌≡◌, length};
 ghost use Rattle.frame.specs.Classes.{IsData, IsIdentify};
 ghost use Rattle.frame.specs.Decoding.{decoded};

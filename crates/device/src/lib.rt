@@ -1,9 +1,11 @@
 // One device of the loop: its fields as 01's table of the record has them, and all of it at power-on. What it does with
 // a frame is said in specs/, and done by the crates above on the state that a frame can alter.
+#![tactic(auto)]
+
 ghost use Rattle.std.specs.Prelude.{◌≡◌};
 ghost use Rattle.device.specs.PowerOn.{power_on};
 
-#[derive(Drop)]
+#[derive(Clone, Copy)]
 pub struct Device {
     pub abilities: u8,
     pub fixed: u8,
@@ -33,7 +35,7 @@ pub struct Device {
 }
 
 // What is handed to the instrument behind a device: a byte to a listener, with its end bit C2; a clear, or a trigger.
-#[derive(Drop)]
+#[derive(Clone, Copy)]
 pub enum Handed {
     Nothing,
     Byte(u8, u8),

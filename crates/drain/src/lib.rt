@@ -1,4 +1,6 @@
 // Drain: the highest-numbered device that can hop hops, again and again, within a budget.
+#![tactic(auto)]
+
 ghost use Rattle.std.specs.Prelude.{◌≡◌, ◌+◌, ◌-◌, ◌<◌};
 ghost use Rattle.area.specs.Loop.{judge_of, loop_of, HasDevice};
 ghost use Rattle.calls.specs.Outcome.{Is, after_of};

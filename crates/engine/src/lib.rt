@@ -1,5 +1,7 @@
 // The plain engine, the second witness (02, l): a frame walked past every device of some records, with no links between
 // them. It shares the definitions with the loop, and no code.
+#![tactic(auto)]
+
 ghost use Rattle.std.specs.Prelude.{◌≡◌, true, [], ◌∷◌, length};
 ghost use Rattle.frame.specs.Decoding.{decoded};
 ghost use Rattle.area.specs.Sizes.{most_devices};

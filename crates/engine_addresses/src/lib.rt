@@ -1,5 +1,7 @@
 // The clauses on a device's addresses (01, "Sound means"; 02, i) by what byte 3 says: not configured, configured or
 // half assigned. What each of them asks for is one chain of tests.
+#![tactic(auto)]
+
 ghost use Rattle.std.specs.Prelude.{◌≡◌, length};
 ghost use Rattle.record.specs.Record.{record_size, device_of};
 ghost use Rattle.record.specs.Sound.{address_right};

@@ -1,4 +1,6 @@
 // What the plain engine does to a record: each change is made in place, on the bytes of the values that it speaks of.
+#![tactic(auto)]
+
 ghost use Rattle.std.specs.Prelude.{◌≡◌, true, [], ◌∷◌, ◌≤◌, ◌<◌};
 ghost use Rattle.device.specs.Device.{received, talks};
 ghost use Rattle.device.specs.Change.{◌becomes◌, changed, talking, placed, counting, flagging, seconding};

@@ -1,5 +1,7 @@
 // The clauses of 01's "Sound means" that ask the same of every device: a group of them a chain of tests, in which "a
 // only with b" is "not a, or b".
+#![tactic(auto)]
+
 ghost use Rattle.std.specs.Prelude.{◌≡◌, length};
 ghost use Rattle.record.specs.Record.{record_size, device_of};
 ghost use Rattle.record.specs.Sound.{in_range, poll_right, abilities_allowed};

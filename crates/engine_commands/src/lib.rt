@@ -1,5 +1,7 @@
 // Commands in a record (01, What a device does with a frame; 02, d): the record after each that names an address or
 // takes roles and addresses away.
+#![tactic(auto)]
+
 ghost use Rattle.std.specs.Prelude.{◌≡◌};
 ghost use Rattle.device.specs.Commands.{lad, tad, ifc, aau};
 ghost use Rattle.record.specs.Record.{device_of};

@@ -1,5 +1,7 @@
 // Data or end, and identify, at a record (01, What a device does with a frame; 02, b, f and g): the record after each,
 // the frame that goes out and the byte handed over.
+#![tactic(auto)]
+
 ghost use Rattle.std.specs.Prelude.{◌≡◌, true, ◌<◌};
 ghost use Rattle.frame.specs.Decoding.{has_c1, decoded};
 ghost use Rattle.device.specs.Data.{agrees, end_bit, returned, heard, data_or_end, idy};
@@ -16,7 +18,7 @@ use engine_table::{ADDRESSED, LAST_HIGH, LAST_LOW, LISTENER, NRD_SEEN, TALKER};
 use frame::Message;
 
 // What goes out of a device, and what it handed over.
-#[derive(Drop)]
+#[derive(Clone, Copy)]
 pub struct Passed {
     pub frame: u16,
     pub handed: Handed,

@@ -1,4 +1,6 @@
 // A device in its record takes a frame that was read: by the rules of the device's variant (02, i).
+#![tactic(auto)]
+
 ghost use Rattle.std.specs.Prelude.{◌≡◌};
 ghost use Rattle.frame.specs.Decoding.{decoded};
 ghost use Rattle.device.specs.Take.{takes_extended, takes};

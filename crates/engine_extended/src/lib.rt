@@ -1,5 +1,7 @@
 // Extended addresses in a record (02, i): the record of an extended device after the frames that it has rules of its
 // own for, and after another command has cleared its flags.
+#![tactic(auto)]
+
 ghost use Rattle.std.specs.Prelude.{◌≡◌, ◌<◌};
 ghost use Rattle.device.specs.Device.{received};
 ghost use Rattle.device.specs.Reply.{sends};

@@ -1,4 +1,6 @@
 // Parallel poll in a record (02, f; 001, 2.12): how sense and bit are told and taken away, and the answer to an IDY.
+#![tactic(auto)]
+
 ghost use Rattle.std.specs.Prelude.{◌≡◌, ◌<◌};
 ghost use Rattle.device.specs.Poll.{ppe, ppd, ppu, answer};
 ghost use Rattle.record.specs.Record.{device_of};

@@ -1,5 +1,7 @@
 // The plain engine's own reading of a frame: its kind by the groups of its bits, and the data bits that the kind leaves
 // free; and the frame of a DAB, END or IDY, which it puts together again.
+#![tactic(auto)]
+
 ghost use Rattle.std.specs.Prelude.{◌≡◌, true, cond, ◌+◌, ◌≤◌, ◌<◌, eqb, ltb};
 ghost use Rattle.frame.specs.Messages.{kinds, kind_at};
 ghost use Rattle.frame.specs.Decoding.{has_c1, decoded, frame_of};

@@ -1,4 +1,6 @@
 // Ready frames at a record (01, What a device does with a frame): the record after each, and the frame that goes out.
+#![tactic(auto)]
+
 ghost use Rattle.std.specs.Prelude.{◌≡◌, ◌<◌};
 ghost use Rattle.device.specs.Ready.{requested, polls, sst, nrd, aad};
 ghost use Rattle.device.specs.Reply.{sends};

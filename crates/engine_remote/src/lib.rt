@@ -1,5 +1,7 @@
 // Remote and local in a record (02, d; 001, 2.17), by bits: of the four states' numbers bit 0 says remote, bit 1
 // locked.
+#![tactic(auto)]
+
 ghost use Rattle.std.specs.Prelude.{◌≡◌};
 ghost use Rattle.device.specs.Remote.{ren, nre, to_remote, llo, gtl};
 ghost use Rattle.record.specs.Record.{device_of};

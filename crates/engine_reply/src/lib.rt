@@ -1,5 +1,7 @@
 // The replies of a talker (01, What a device does with a frame, from "Reply bytes are DAB"; 02, h), sent from its
 // record and counted there.
+#![tactic(auto)]
+
 ghost use Rattle.std.specs.Prelude.{◌≡◌, true, ◌<◌, get_or};
 ghost use Rattle.frame.specs.Decoding.{has_c1, decoded};
 ghost use Rattle.frame.specs.declared.Message.{Message};

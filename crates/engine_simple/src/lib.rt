@@ -1,5 +1,7 @@
 // A simple device in its record takes a frame: by the number of its kind, which has data and end first, then commands,
 // then ready frames, and identify last.
+#![tactic(auto)]
+
 ghost use Rattle.std.specs.Prelude.{◌≡◌, ◌<◌};
 ghost use Rattle.frame.specs.Decoding.{decoded};
 ghost use Rattle.device.specs.Clear.{to_listener};

@@ -1,5 +1,7 @@
 // Whether header and records are sound, judged by the plain engine alone: it calls nothing of the loop's, and shares
 // only the definitions. The records go by their number, until one is not sound.
+#![tactic(auto)]
+
 ghost use Rattle.std.specs.Prelude.{◌≡◌, length};
 ghost use Rattle.record.specs.Record.{record_size, device_of};
 ghost use Rattle.record.specs.Sound.{zero_past, sound_record};

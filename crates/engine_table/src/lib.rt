@@ -1,5 +1,6 @@
 // The plain engine's own table of header and record (01, The lent area; 02, d, f, h and i): the place of each value,
 // and the numbers that a value can be.
+#![tactic(auto)]
 
 // Bytes before the first record, how many of them are zero, and bytes of a record.
 pub const HEADER: usize = 8;

@@ -1,5 +1,7 @@
 // The clauses on a talker and its data (01, "Sound means"): a chain of tests for a device that sends nothing, one for
 // data, one for the replies of states 3 to 5.
+#![tactic(auto)]
+
 ghost use Rattle.std.specs.Prelude.{◌≡◌, ◌≤◌, ◌<◌, length, get_or};
 ghost use Rattle.device.specs.Device.{addressed, sending_data};
 ghost use Rattle.device.specs.Change.{talker};

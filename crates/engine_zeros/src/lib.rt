@@ -1,4 +1,6 @@
 // Whether a stretch of bytes is zero past a length: ID and data of a record, and a header past none.
+#![tactic(auto)]
+
 ghost use Rattle.std.specs.Prelude.{◌≡◌, ◌+◌, ◌≤◌, length, drop};
 ghost use Rattle.device.specs.PowerOn.{bytes_from};
 ghost use Rattle.record.specs.Record.{zeros};

@@ -1,5 +1,7 @@
 // Extended addresses (02, i): what an extended device does with the frames that it has rules of its own for, and where
 // it begins with any other command. Bytes 20 and 21 are written where they lie, all else changes in the state.
+#![tactic(auto)]
+
 ghost use Rattle.std.specs.Prelude.{◌≡◌, true, ◌&&◌, ◌≤◌, ◌<◌, length};
 ghost use Rattle.frame.specs.Messages.{kind_at};
 ghost use Rattle.device.specs.Device.{extended, received, has_further};

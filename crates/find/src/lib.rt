@@ -1,4 +1,6 @@
 // A device by its number: its place in the loop of an area, or the refusal of the area or of the number.
+#![tactic(auto)]
+
 ghost use Rattle.std.specs.Prelude.{◌≡◌};
 ghost use Rattle.find.specs.Find.{found_of};
 
@@ -7,7 +9,7 @@ use area::lookup::place_of;
 use calls::NO_DEVICE;
 use judge::judge;
 
-#[derive(Drop)]
+#[derive(Clone, Copy)]
 pub enum Found {
     At(usize),
     Refused(u8),

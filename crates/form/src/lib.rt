@@ -1,4 +1,6 @@
 // Whether a save has the form: its count, its length, every record's length and kind, and its edition.
+#![tactic(auto)]
+
 ghost use Rattle.std.specs.Prelude.{◌≡◌, ◌*◌, ◌≤◌, ◌<◌, length};
 ghost use Rattle.area.specs.Sizes.{most_devices};
 ghost use Rattle.area.specs.Parts.{parts, all};

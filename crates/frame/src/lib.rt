@@ -1,5 +1,7 @@
 // The codes of the loop: the one decoding of a frame (its kind, its offset in the kind, and C1), and the frame that
 // these three make. The rules of other crates take a frame's parts from here.
+#![tactic(auto)]
+
 ghost use Rattle.std.specs.Prelude.{◌≡◌, ◌<◌};
 ghost use Rattle.frame.specs.Messages.{kinds, kind_at, number_of, first_of};
 ghost use Rattle.frame.specs.Classes.{IsData};
@@ -33,7 +35,7 @@ pub const IDY: u8 = 42;
 pub const BAD_FRAME: u8 = 4;
 
 // The kinds of frame in the order of their numbers; `Unused` is kind 0, of every frame outside the list.
-#[derive(Drop)]
+#[derive(Clone, Copy)]
 pub enum Kind {
     Unused,
     Dab,
@@ -81,7 +83,7 @@ pub enum Kind {
 }
 
 // A frame decoded, its kind as a number; kind 0 is that of a frame that is no message.
-#[derive(Drop)]
+#[derive(Clone, Copy)]
 pub struct Message {
     pub kind: u8,
     pub offset: u8,
@@ -89,14 +91,14 @@ pub struct Message {
 }
 
 // What the decoder answers: the decoding, or refusal 4.
-#[derive(Drop)]
+#[derive(Clone, Copy)]
 pub enum Decoded {
     Of(Message),
     BadFrame,
 }
 
 // What the encoder answers: the frame, or refusal 4.
-#[derive(Drop)]
+#[derive(Clone, Copy)]
 pub enum Encoded {
     Frame(u16),
     BadFrame,

@@ -1,4 +1,6 @@
 // Hop: a device takes its oldest frame and sends one into the next link.
+#![tactic(auto)]
+
 ghost use Rattle.std.specs.Prelude.{◌≡◌};
 ghost use Rattle.area.specs.Loop.{loop_of, Holds, HasDevice};
 ghost use Rattle.area.specs.Lookup.{set_device};

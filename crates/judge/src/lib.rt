@@ -1,4 +1,6 @@
 // An area's refusal as such: its shape, then its contents.
+#![tactic(auto)]
+
 pub mod contents;
 
 ghost use Rattle.std.specs.Prelude.{◌≡◌};

@@ -1,4 +1,6 @@
 // Prints the published table of kinds as a C header: the kind number of every frame.
+#![tactic(auto)]
+
 use print::{decimal, text};
 
 fn main() {

@@ -1,4 +1,6 @@
 // Lists each script that an argument names, under a line with its name.
+#![tactic(auto)]
+
 use libc::STDOUT_FILENO;
 
 // A script's file, whole.

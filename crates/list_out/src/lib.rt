@@ -1,5 +1,7 @@
 // The listing of a script, written to standard output chunk by chunk, and behind a `bad` or `long` the words for it to
 // standard error.
+#![tactic(auto)]
+
 ghost use Rattle.std.specs.Prelude.{◌≤◌, length};
 
 use libc::STDOUT_FILENO;

@@ -10,7 +10,7 @@ use lib.ListN.{length, take, drop, replicate, length-append, length-drop, length
 use lib.ListN.{length-take}
 use lib.Seq.{length-take-le}
 use borrow.Author.Tests.{ltb-true, ltb-false, leb-true, leb-false, le-leb}
-use Rattle.bytes.specs.Bytes.{index_of}
+use Rattle.byte_runs.specs.Bytes.{index_of}
 use Rattle.record.specs.Sound.{allowed}
 use Rattle.area.specs.Sizes.{most_devices, area_size}
 use Rattle.area.specs.Parts.{all}

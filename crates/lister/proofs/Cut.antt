@@ -6,7 +6,7 @@ use mathlib.Core.Bool.{Bool, true, false, cond}
 use native.Mathlib.Nat.{not-suc-le-zero}
 use lib.Dec.{eqb}
 use lib.ListN.{length, take, drop}
-use Rattle.bytes.specs.Bytes.{index_of, index_after}
+use Rattle.byte_runs.specs.Bytes.{index_of, index_after}
 use Rattle.text.specs.Words.{newline}
 use Rattle.lister.specs.Lines.{onto, lines_of}
 

@@ -19,7 +19,7 @@ use Rattle.area.proofs.Parts.{rest_is}
 use Rattle.area.proofs.Areas.{judge_zero, is_shaped}
 use Rattle.calls.specs.Outcome.{After, after, Is}
 use Rattle.calls.specs.SetUp.{items_of, powered_on, set_up_of}
-use Rattle.bytes.specs.Bytes.{index_of, slice}
+use Rattle.byte_runs.specs.Bytes.{index_of, slice}
 use Rattle.text.specs.Words.{newline}
 use Rattle.text.specs.Digits.{number_at}
 use Rattle.text.specs.Out.{bad_line, long_line}

@@ -10,7 +10,7 @@ use lib.Dec.{ltb}
 use lib.ListN.{length, drop, length-append, length-drop, drop_of_length-le, get_or-append}
 use lib.Seq.{take_at, drop_at, drop-drop, length-take-le}
 use borrow.Author.Tests.{ltb-true, ltb-false, lt-ltb, le-ltb, le-leb}
-use Rattle.bytes.specs.Bytes.{index_of}
+use Rattle.byte_runs.specs.Bytes.{index_of}
 use Rattle.area.specs.Sizes.{area_size}
 use Rattle.area.specs.Loop.{count_in}
 use Rattle.text.specs.Words.{newline}

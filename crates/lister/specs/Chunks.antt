@@ -1,6 +1,6 @@
 -- What each call of the lister does: a chunk of the listing, over a lent area that may be longer than the loop's.
 use Rattle.std.specs.Prelude.{ℕ, ◌+◌, ◌≡◌, List, [], ◌++◌, Bool, cond, ◌&&◌, eqb, ltb, leb, length, take, drop}
-use Rattle.bytes.specs.Bytes.{index_of}
+use Rattle.byte_runs.specs.Bytes.{index_of}
 use Rattle.record.specs.Parts.{splice}
 use Rattle.area.specs.Sizes.{most_devices, area_size}
 use Rattle.area.specs.Loop.{count_in, judge_of}

@@ -1,5 +1,7 @@
 // The lister (01, the lister): a script of frames in, what the loop does with them out. `start` writes the first chunk
 // of the listing, `step` each further one, over an area and a buffer that the caller lends.
+#![tactic(auto)]
+
 mod list;
 
 ghost use Rattle.std.specs.Prelude.{◌≡◌};
@@ -18,7 +20,7 @@ pub const AREA_ROOM: usize = area::LARGEST;
 
 // Where the listing goes on: at a line's place, with its number, or nowhere. Refused: what was lent is too small or
 // holds no loop, or the number is no line's, and nothing was done.
-#[derive(Drop)]
+#[derive(Clone, Copy)]
 pub enum Next {
     Line(usize, usize),
     End,
@@ -26,7 +28,7 @@ pub enum Next {
 }
 
 // The bytes that a call wrote at the front of the buffer, and how to go on.
-#[derive(Drop)]
+#[derive(Clone, Copy)]
 pub struct Chunk {
     pub written: usize,
     pub next: Next,

@@ -77,7 +77,7 @@ pub fn start(input: &[u8], area: &mut [u8], out: &mut [u8]) -> Chunk
     if LONGEST < input.len() {
         return Chunk::last(put(out, 0, b"long\n"));
     }
-    let end = bytes::scan::find(input, 0, input.len(), b'\n');
+    let end = byte_runs::find(input, 0, input.len(), b'\n');
     first(&input[..end], area, out)
 }
 
@@ -109,6 +109,6 @@ pub fn step(input: &[u8], at: usize, number: usize, area: &mut [u8], out: &mut [
     if input.len() <= at {
         return Chunk::last(0);
     }
-    let end = bytes::scan::find(input, at, input.len(), b'\n');
+    let end = byte_runs::find(input, at, input.len(), b'\n');
     line(&input[at..end], at, number, area, out)
 }

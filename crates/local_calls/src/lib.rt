@@ -1,5 +1,7 @@
 // The local calls on an area: load data, set status, wish for service, press the panel key, set the poll status. The
 // device is found by its number, and the call is made in its record (record_local).
+#![tactic(auto)]
+
 ghost use Rattle.std.specs.Prelude.{◌≡◌, cond};
 ghost use Rattle.area.specs.Loop.{shape, unsound, shaped};
 ghost use Rattle.calls.specs.Outcome.{Is};

@@ -1,5 +1,7 @@
 // Runs the message table of document 001: each message's bits as the table prints them, its codes, and what decoder (as
 // kind.offset.C1) and encoder make of these; then the kind of every frame, and the refusals.
+#![tactic(auto)]
+
 ghost use Rattle.std.specs.Prelude.{◌<◌};
 ghost use Rattle.frame.specs.Messages.{frames};
 

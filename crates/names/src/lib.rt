@@ -1,5 +1,7 @@
 // Names for people, written to standard output: the mnemonics of the kinds as the message table of 001 has them, and a
 // few words for each refusal, stop reason, event and state.
+#![tactic(auto)]
+
 use frame::KINDS;
 use print::text;
 

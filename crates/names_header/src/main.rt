@@ -1,10 +1,12 @@
 // Prints a C header with names as arrays by number: the mnemonics of the message table's kinds, and words for refusals,
 // stop reasons, states and events.
+#![tactic(auto)]
+
 use frame::KINDS;
 use print::{decimal, text};
 
 // What the arrays of the header are of.
-#[derive(Drop)]
+#[derive(Clone, Copy)]
 enum Names {
     Kinds,
     Refusals,

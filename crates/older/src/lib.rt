@@ -1,5 +1,7 @@
 // Saves of the old edition, from before loads took a choice (02, h): whether byte 19 is zero in the records of one, and
 // the choice that each device with data gets when it is opened.
+#![tactic(auto)]
+
 ghost use Rattle.std.specs.Prelude.{◌≡◌, map, ◌*◌, ◌≤◌, length};
 ghost use Rattle.record.specs.Record.{record_size};
 ghost use Rattle.area.specs.Parts.{parts, join, all};

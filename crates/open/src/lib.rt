@@ -1,5 +1,7 @@
 // Open: a save becomes the lent area, if it has the form and its contents are sound. One of the old edition is opened
 // as its upgrade (02, h).
+#![tactic(auto)]
+
 mod old;
 
 ghost use Rattle.calls.specs.Outcome.{Is};

@@ -1,4 +1,6 @@
 // How many hops the frames in the links still owe (02, k): each frame one for every device ahead of it.
+#![tactic(auto)]
+
 ghost use Rattle.std.specs.Prelude.{◌≡◌, length};
 ghost use Rattle.area.specs.Loop.{judge_of, loop_of, link, HasLink};
 ghost use Rattle.order.specs.Owed.{owed as owedBy};

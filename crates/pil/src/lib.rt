@@ -1,5 +1,7 @@
 // The calls exported to C (01, The calls): numbers and bytes in, a refusal or an answer out. Each stands in the crate
 // of its idea; here is the boundary that C sees.
+#![tactic(auto)]
+
 ghost use Rattle.std.specs.Prelude.{◌≡◌};
 ghost use Rattle.device.specs.Device.{end_last};
 ghost use Rattle.calls.specs.Outcome.{Is};

@@ -1,4 +1,6 @@
 // Reads a script of frames from standard input, and writes to standard output what the loop does with them.
+#![tactic(auto)]
+
 use lister::LONGEST;
 
 // One byte past the longest script is enough to know that an input is too long.

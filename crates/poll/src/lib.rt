@@ -1,5 +1,7 @@
 // Parallel poll: the code of device's specs/Poll.antt, on the state that a frame can alter, with the status in the
 // record lent beside it (02, f; 001, 2.12).
+#![tactic(auto)]
+
 ghost use Rattle.std.specs.Prelude.{◌≡◌, ◌<◌, length};
 ghost use Rattle.device.specs.Choose.{choose};
 ghost use Rattle.device.specs.Change.{assigning};

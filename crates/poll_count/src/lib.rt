@@ -1,4 +1,6 @@
 // The count over an IDY that came back from a poll (02, f), by the processor's own counts of a byte's bits.
+#![tactic(auto)]
+
 ghost use Rattle.std.specs.Prelude.{◌≡◌};
 ghost use Rattle.poll_count.specs.Count.{no_count, counted, poll_count};
 
@@ -6,7 +8,7 @@ use frame::{BAD_FRAME, Decoded, IDY};
 
 // How many of an IDY's data bits are one, and the number of the lowest of them, 8 for none.
 #[repr(C)]
-#[derive(Drop)]
+#[derive(Clone, Copy)]
 pub struct PollAnswer {
     pub refusal: u8,
     pub ones: u8,

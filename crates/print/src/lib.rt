@@ -1,4 +1,6 @@
 // Text and numbers to standard output, for the programs that run the papers' cases.
+#![tactic(auto)]
+
 use libc::STDOUT_FILENO;
 
 pub fn text(bytes: &[u8]) {

@@ -1,4 +1,6 @@
 // The published table: the kind number of every frame, for host tools.
+#![tactic(auto)]
+
 mod kinds;
 
 ghost use Rattle.std.specs.Prelude.{◌≡◌};

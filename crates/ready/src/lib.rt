@@ -1,4 +1,6 @@
 // Ready frames (01, What a device does with a frame).
+#![tactic(auto)]
+
 ghost use Rattle.std.specs.Prelude.{◌≡◌, ◌<◌, length};
 ghost use Rattle.device.specs.Ready.{requested, polls, sst, nrd, aad};
 ghost use Rattle.device.specs.Take.{takes_simple};

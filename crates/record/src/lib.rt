@@ -1,5 +1,7 @@
 // A device's record of 64 bytes (01, The lent area): its places, and what is read from it where it lies. The crate
 // record_write writes whole ones, and the crate sound judges when one is sound.
+#![tactic(auto)]
+
 pub mod read;
 
 ghost use Rattle.std.specs.Prelude.{◌≡◌, ◌+◌, ◌<◌, length};

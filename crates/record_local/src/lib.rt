@@ -1,5 +1,7 @@
 // The local calls of a device (01, The calls; 02, d, f and h), made in its record, refused with 7, 8, 9 in that order;
 // 2, for a load's choice, comes before the device is looked for. Only the bytes that a call speaks of are written.
+#![tactic(auto)]
+
 ghost use Rattle.std.specs.Prelude.{◌≡◌, ◌≤◌, length};
 ghost use Rattle.device.specs.Device.{end_last, most_data};
 ghost use Rattle.device.specs.PowerOn.{bytes_from};
@@ -27,7 +29,7 @@ fn fill(to: &mut [u8], bytes: &[u8])
     ensures { to.new ≡ bytes_from 0 most_data bytes.now }
 {
     clear(to);
-    bytes::copy(bytes, to);
+    byte_runs::copy(bytes, to);
 }
 
 fn loading(rec: &mut [u8], bytes: &[u8], choice: u8)

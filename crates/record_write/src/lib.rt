@@ -1,4 +1,6 @@
 // Bytes put where they lie: zeros, a part, and the record of a whole device as set-up writes it.
+#![tactic(auto)]
+
 ghost use Rattle.std.specs.Prelude.{◌≡◌, ◌+◌, ◌≤◌, length, replicate};
 ghost use Rattle.device.specs.Device.{most_id, most_data};
 ghost use Rattle.record.specs.Record.{record_size, record_of};
@@ -24,7 +26,7 @@ fn fill(to: &mut [u8], at: usize, part: &[u8])
     ensures { to.new ≡ splice at part.now to.old }
 {
     let end = at + part.len();
-    bytes::copy(part, &mut to[at..end]);
+    byte_runs::copy(part, &mut to[at..end]);
 }
 
 // The three stretches of a record; an array's type says its length.

@@ -1,4 +1,6 @@
 // Remote and local: the code of device's specs/Remote.antt, on the state that a frame can alter (02, d; 001, 2.17).
+#![tactic(auto)]
+
 ghost use Rattle.std.specs.Prelude.{◌≡◌};
 ghost use Rattle.device.specs.Remote.{ren, nre, moves, moved, to_remote, llo, gtl};
 ghost use Rattle.device.specs.declared.Device.{Device};

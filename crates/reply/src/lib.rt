@@ -1,4 +1,6 @@
 // The replies of a talker (01, What a device does with a frame, from "Reply bytes are DAB"; 02, h).
+#![tactic(auto)]
+
 ghost use Rattle.std.specs.Prelude.{◌≡◌, ◌*◌, ◌≤◌, ◌<◌, length};
 ghost use Rattle.frame.specs.Messages.{frames};
 ghost use Rattle.frame.specs.Decoding.{c1_adds, frame_of};

@@ -1,4 +1,6 @@
 // A frame sent right round: put, a hop of each device, take, and the lines that tell of them.
+#![tactic(auto)]
+
 ghost use Rattle.std.specs.Prelude.{◌≡◌, ◌+◌, ◌≤◌, ◌<◌, length};
 ghost use Rattle.area.specs.Loop.{judge_of};
 ghost use Rattle.round.specs.Round.{handed, round_text, round_area, text_room, Hopped};

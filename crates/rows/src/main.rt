@@ -1,4 +1,6 @@
 // Runs 01's cases under "Run:", and prints what happened in each, a line a case.
+#![tactic(auto)]
+
 use area::{HEADER_SIZE, ITEM_SIZE, LARGEST, LINK_SIZE, MOST_DEVICES};
 use device::Device;
 use print::{decimal, hex, text};

@@ -1,4 +1,6 @@
 // Save: an area is put away as a row of records.
+#![tactic(auto)]
+
 ghost use Rattle.std.specs.Prelude.{◌≡◌, map, ◌+◌, ◌*◌, ◌≤◌, length};
 ghost use Rattle.record.specs.Record.{record_size};
 ghost use Rattle.area.specs.Parts.{parts, join};
@@ -22,7 +24,7 @@ fn write_record(to: &mut [u8], kind: u8, body: &[u8])
     ensures { to.new ≡ recorded kind body.now }
 {
     let head = head_of(kind, body.len());
-    bytes::copy(&head, to);
+    byte_runs::copy(&head, to);
     fill(body, &mut to[HEAD_SIZE..]);
 }
 

@@ -1,5 +1,7 @@
 // Saved loops: the numbers of their form, what stands before a body, and how a body is copied. What save and open do is
 // said in specs/.
+#![tactic(auto)]
+
 ghost use Rattle.std.specs.Prelude.{◌≡◌, ◌≤◌, ◌<◌, length};
 ghost use Rattle.record.specs.Record.{record_size};
 ghost use Rattle.saved.specs.Saved.{head_of, saved_links_at, saved_size};
@@ -64,6 +66,6 @@ pub fn fill(from: &[u8], to: &mut [u8])
     ensures { to.new ≡ from.now }
 {
     let mut read = [0u8; record::SIZE];
-    let n = bytes::copy(from, &mut read);
-    bytes::copy(&read[..n], to);
+    let n = byte_runs::copy(from, &mut read);
+    byte_runs::copy(&read[..n], to);
 }

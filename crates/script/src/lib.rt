@@ -1,4 +1,6 @@
 // The lines of a script, read: digits, a frame line, and line 1 with its devices (01, the lister).
+#![tactic(auto)]
+
 ghost use Rattle.std.specs.Prelude.{◌≡◌, true, map, ◌*◌, ◌≤◌, length};
 ghost use Rattle.area.specs.Sizes.{item_size};
 ghost use Rattle.area.specs.Parts.{parts, join, all};
@@ -11,14 +13,14 @@ use area::{ITEM_SIZE, is_count};
 use text::put;
 
 // What a frame line says.
-#[derive(Drop)]
+#[derive(Clone, Copy)]
 pub enum FrameLine {
     Frame(u16),
     Wrong,
 }
 
 // What line 1 says: the number of devices.
-#[derive(Drop)]
+#[derive(Clone, Copy)]
 pub enum LoopLine {
     Devices(usize),
     Wrong,

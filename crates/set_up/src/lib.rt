@@ -1,5 +1,7 @@
 // Set up: an item a device, and an area with any contents, which becomes that of the devices at power-on (02, f and i:
 // items of 12 bytes, of 13 or of 14).
+#![tactic(auto)]
+
 ghost use Rattle.std.specs.Prelude.{◌≡◌, true, ◌≤◌, length};
 ghost use Rattle.device.specs.PowerOn.{bytes_from};
 ghost use Rattle.record.specs.Sound.{allowed};
@@ -65,7 +67,7 @@ fn item_of(bytes: &[u8]) -> [u8; LONG_ITEM_SIZE]
     ensures { result ≡ bytes_from 0 long_item_size bytes.now }
 {
     let mut item = [0u8; LONG_ITEM_SIZE];
-    bytes::copy(bytes, &mut item);
+    byte_runs::copy(bytes, &mut item);
     item
 }
 

@@ -1,5 +1,7 @@
 // When a record is sound (01, "Sound means"), judged where it lies; the same clauses judge a set-up item. Each group of
 // clauses stands in a test of its own, so that the first that fails decides.
+#![tactic(auto)]
+
 ghost use Rattle.std.specs.Prelude.{◌≡◌, length};
 ghost use Rattle.device.specs.PowerOn.{power_on};
 ghost use Rattle.device.specs.declared.Device.{Device};

@@ -1,4 +1,6 @@
 // What a frame can alter of a device, by value. The rest stays in the device's record, lent beside it.
+#![tactic(auto)]
+
 mod change;
 
 ghost use Rattle.std.specs.Prelude.{◌≡◌, length};
@@ -16,7 +18,7 @@ use record::{
 
 // The order of the fields was found by trying: it decides how much stack a hop takes, and means nothing else
 // (docs/PERFORMANCE.md).
-#[derive(Drop)]
+#[derive(Clone, Copy)]
 pub struct State {
     pub last: u16,
     pub address: u8,
@@ -33,7 +35,7 @@ pub struct State {
 }
 
 // The state after a frame, the frame that is sent and what is handed over.
-#[derive(Drop)]
+#[derive(Clone, Copy)]
 pub struct Passed {
     pub state: State,
     pub frame: u16,

@@ -1,4 +1,6 @@
 // A device takes a frame: by value, and in its record.
+#![tactic(auto)]
+
 ghost use Rattle.std.specs.Prelude.{◌≡◌, length};
 ghost use Rattle.frame.specs.Classes.{IsData};
 ghost use Rattle.device.specs.Take.{takes};
@@ -15,7 +17,7 @@ use ready::ready;
 use state::{Passed, State, sends};
 
 // The device that takes a frame, by value: the state that the frame can alter.
-#[derive(Drop)]
+#[derive(Clone, Copy)]
 pub struct Taker(pub State);
 
 // What was passed on, once its state is in the record.

@@ -1,4 +1,6 @@
 // What a talker's state asks for: its ability, what of a reply is sent, and nothing under way outside states 2-5.
+#![tactic(auto)]
+
 ghost use Rattle.std.specs.Prelude.{◌≡◌, ◌&&◌, eqb, length};
 ghost use Rattle.record.specs.Record.{record_size, device_of};
 ghost use Rattle.record.specs.Sound.{talker_right};

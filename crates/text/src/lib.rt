@@ -1,4 +1,6 @@
 // Text written into a lent buffer, each function from a place on and up to the place that it answers.
+#![tactic(auto)]
+
 ghost use Rattle.std.specs.Prelude.{◌≡◌, ◌+◌, ◌%◌, ◌≤◌, ◌<◌, length};
 ghost use Rattle.text.specs.Digits.{char_of, decimal as Digits·decimal};
 ghost use Rattle.text.specs.Out.{hand_size, frame_size, bad_size, script_size, hand_line, frame_line, script_line};
@@ -18,7 +20,7 @@ pub fn put(out: &mut [u8], at: usize, text: &[u8]) -> usize
     ensures { Wrote text.now at out.old result out.new }
 {
     let end = at + text.len();
-    bytes::copy(text, &mut out[at..end]);
+    byte_runs::copy(text, &mut out[at..end]);
     end
 }
 

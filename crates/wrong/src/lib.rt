@@ -1,5 +1,7 @@
 // What is wrong with a line of a script, in words, on standard error. What makes a line wrong is decided by `script` and
 // by the set-up; here the first fault of such a line is named.
+#![tactic(auto)]
+
 ghost use Rattle.std.specs.Prelude.{◌≡◌, length};
 ghost use Rattle.script.specs.Script.{group_size};
 
@@ -180,14 +182,14 @@ pub fn first(input: &[u8], longest: usize) {
         say(b"line 1: the script is empty\n");
         return;
     }
-    let end = bytes::scan::find(input, 0, input.len(), b'\n');
+    let end = byte_runs::find(input, 0, input.len(), b'\n');
     line_1(&input[0..end]);
 }
 
 // Words for a wrong later line, which starts at a place.
 pub fn later(input: &[u8], at: usize, number: usize) {
     if at < input.len() {
-        let end = bytes::scan::find(input, at, input.len(), b'\n');
+        let end = byte_runs::find(input, at, input.len(), b'\n');
         if unseen(&input[at..end], number) {
             return;
         }

@@ -1,4 +1,6 @@
 // The bytes of a record that are zero: ID and data past their length.
+#![tactic(auto)]
+
 ghost use Rattle.std.specs.Prelude.{◌≡◌, length, drop};
 ghost use Rattle.record.specs.Record.{record_size, device_of, zeros};
 ghost use Rattle.record.specs.Sound.{zero_past};

@@ -10,5 +10,5 @@ c1s_spec =
     tie.close
     (tie.spec
     (λ c κs. search rules)
-    (λ c. sym (c1s_free _ (sym c.before.has_c1.ensures ∙ c.if1.true)))
-    (λ c. sym (c1s_coded _ (sym c.before.has_c1.ensures ∙ c.if1.false))))
+    (λ c. sym (c1s_free _ (sym c.before.has_c1.ensures ∙ c.if-has_c1.true)))
+    (λ c. sym (c1s_coded _ (sym c.before.has_c1.ensures ∙ c.if-has_c1.false))))

@@ -25,4 +25,4 @@ data_of_spec =
     (λ c. record { fits = omega (arith, c.requires.past) })
     (λ c κs. let e = by_c2 c.args.frame c.requires.past in
     record { kind = e; free = ap has_c1 e ∙ data_free c.args.frame c.requires.past })
-    (λ c. c.with-c1.ensures))
+    (λ c. c.with_c1.ensures))

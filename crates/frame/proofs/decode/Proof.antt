@@ -23,32 +23,32 @@ unfolding decode_of
 outside f h = rw (le-ltb f frames h)
 
 -- the number found is the frame's kind
-known : (c : tie.After-number) → c.number.result ≡ kind_at c.before.before.before.args.frame
-known c = c.number.ensures ∙ c.before.kind-of.ensures
+known : (c : tie.After-number-k) → c.number-k.result ≡ kind_at c.before.before.before.args.frame
+known c = c.number-k.ensures ∙ c.before.kind_of-kind.ensures
 
-returns-2 : tie.Need-returns-2
-returns-2 c =
+returns-then-has_c1 : tie.Need-returns-then-has_c1
+returns-then-has_c1 c =
     let n = c.before.before.before in
     let f = n.before.before.before.args.frame in
-    inside f _ (omega (arith, n.before.before.if1.false)) c.with-c1.ensures
+    inside f _ (omega (arith, n.before.before.if-frame.false)) c.with_c1.ensures
 
-returns-3 : tie.Need-returns-3
-returns-3 c =
+returns-then-k-eq0 : tie.Need-returns-then-k-eq0
+returns-then-k-eq0 c =
     let n = c.before.before.before in
     let f = n.before.before.before.args.frame in
-    inside f _ (omega (arith, n.before.before.if1.false)) (sym (nought f (sym (known n) ∙ c.if3.true)))
+    inside f _ (omega (arith, n.before.before.if-frame.false)) (sym (nought f (sym (known n) ∙ c.if-k-eq0.true)))
 
 -- past the tests the kind has no C1
-without : (c : tie.Else3) → has_c1 c.before.before.before.number.result ≡ false
-without c = sym c.before.before.has_c1.ensures ∙ c.before.if2.false
+without : (c : tie.Else-k-eq0) → has_c1 c.before.before.before.number-k.result ≡ false
+without c = sym c.before.before.has_c1.ensures ∙ c.before.if-has_c1.false
 
-returns-4 : tie.Need-returns-4
-returns-4 c =
+returns : tie.Need-returns
+returns c =
     let n = c.before.before.before.before in
-    let k = n.number.result in
+    let k = n.number-k.result in
     let f = n.before.before.before.args.frame in
-    inside f _ (omega (arith, n.before.before.if1.false))
-    (sym (same k _ 0 f (sym (known n)) (rw (known n) (sym c.offset-of.ensures))
+    inside f _ (omega (arith, n.before.before.if-frame.false))
+    (sym (same k _ 0 f (sym (known n)) (rw (known n) (sym c.offset_of.ensures))
     (c1_coded k (without c.before) f)))
 
 pub decode_spec : {M : Type 1} → statement M
@@ -62,14 +62,14 @@ decode_spec =
     (λ c κs. search rules)
     (λ c κs. record {
       kind = known c.before.before;
-      free = sym c.before.has_c1.ensures ∙ c.if2.true;
+      free = sym c.before.has_c1.ensures ∙ c.if-has_c1.true;
     })
-    returns-2
-    returns-3
+    returns-then-has_c1
+    returns-then-k-eq0
     (λ c κs. let n = c.before.before.before in
     record {
-      kind = n.before.kind-of.ensures;
-      listed = omega (arith, n.number.ensures, c.if3.false);
-      without = rw n.number.ensures at (without c);
+      kind = n.before.kind_of-kind.ensures;
+      listed = omega (arith, n.number-k.ensures, c.if-k-eq0.false);
+      without = rw n.number-k.ensures at (without c);
     })
-    returns-4)
+    returns)

@@ -38,8 +38,8 @@ listed : (c : tie.After-first) →
 listed c =
     let s = c.before.before in
     record {
-      offset = omega (arith, s.before.before.offsets.ensures, s.before.if2.false);
-      c1 = omega (arith, s.c1s.ensures, c.before.if3.false);
+      offset = omega (arith, s.before.before.offsets.ensures, s.before.if-offsets-offset.false);
+      c1 = omega (arith, s.c1s.ensures, c.before.if-c1s-c1.false);
     }
 
 -- so the frame, and what it is the sum of, fit
@@ -51,8 +51,8 @@ fits c =
     let l = listed c in
     omega (arith, (placed a.kind a.offset a.c1 l.offset l.c1).below, c.first.ensures)
 
-returns-4 : tie.Need-returns-4
-returns-4 c =
+returns : tie.Need-returns
+returns c =
     let l = listed c in
     inside _ _ _ _ c.first.ensures l.offset l.c1
 
@@ -74,4 +74,4 @@ encode_spec =
     (λ c. search rules)
     (λ c. record { fits = omega (arith, fits c) })
     (λ c. record { fits = omega (arith, fits c) })
-    returns-4)
+    returns)

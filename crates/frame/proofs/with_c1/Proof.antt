@@ -11,7 +11,7 @@ returns c =
     let k = s.args.kind in
     let f = s.args.frame in
     sym
-    (same k _ _ f (sym s.requires.kind) (offset_free k s.requires.free f ∙ sym c.data-bits.ensures)
+    (same k _ _ f (sym s.requires.kind) (offset_free k s.requires.free f ∙ sym c.data_bits.ensures)
     (c1_free k s.requires.free f))
 
 pub with_c1_spec : {M : Type 1} → statement M
