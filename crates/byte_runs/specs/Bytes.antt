@@ -1,5 +1,5 @@
 -- Runs of bytes: a part of a list by its bounds, and the place of the first byte of a value.
-use Rattle.std.specs.Prelude.{ℕ, zero, suc, ◌-◌, List, [], ◌∷◌, Bool, cond, eqb, take, drop}
+use Rattle.std.specs.Prelude.{ℕ, suc, ◌-◌, List, [], ◌∷◌, Bool, cond, eqb, take, drop}
 
 -- the part from one place up to another
 abbrev pub slice : (from to : ℕ) → List ℕ → List ℕ

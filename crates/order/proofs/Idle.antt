@@ -3,7 +3,7 @@
 use Prim.Native.Nat.{ℕ, suc}
 use native.Mathlib.Omega.{arith}
 use mathlib.Core.Path.{◌≡◌, refl, ap}
-use mathlib.Core.Bool.{Bool, true, cond}
+use mathlib.Core.Bool.{Bool, true, false, cond}
 use mathlib.Core.Option.{none, some}
 use mathlib.Core.List.{List, [], ◌∷◌}
 use lib.ListN.{length}
@@ -16,6 +16,7 @@ use Rattle.order.specs.RightRound.{left_after, clear, right_round, one_by_one}
 
 has_room : {A : Type 0} (b : Bool) → T b → (x : A) → cond b (some x) none ≡ some x
 has_room true u x = refl
+has_room false u x = elim u [ ]
 
 module _ {L : Line} where
   open L use {Frame, depth, deep}

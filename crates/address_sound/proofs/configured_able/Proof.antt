@@ -13,5 +13,5 @@ configured_able_spec =
     (λ c. search rules)
     (λ c κs. search rules)
     (λ c. search rules)
-    (λ c. search (clause, c.before.has.ensures))
+    (λ c. search (clause, c.has.ensures))
     (λ c. search clause))

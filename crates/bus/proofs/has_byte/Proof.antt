@@ -7,8 +7,7 @@ use Rattle.bus.proofs.has_byte.Tie as tie
 
 returns : tie.Need-returns
 returns c =
-    let d = c.before in
-    rw (c.has-command.ensures, d.data-bits.ensures) (has_byte_is d.before.args.f)
+    rw (c.has_command.ensures, c.data_bits.ensures) (has_byte_is c.args.f)
 
 pub has_byte_spec : {M : Type 1} → statement M
 has_byte_spec = tie.close (tie.spec (λ c κs. search rules) (λ c κs. search rules) returns)

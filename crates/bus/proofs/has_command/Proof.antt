@@ -4,11 +4,11 @@ use Rattle.bus.proofs.Codes.{below_addresses, among_addresses}
 use Rattle.bus.proofs.has_command.Statement.{statement}
 use Rattle.bus.proofs.has_command.Tie as tie
 
-returns : tie.Need-returns
-returns c = below_addresses c.before.args.b c.if1.true
+returns-then-b-lt32 : tie.Need-returns-then-b-lt32
+returns-then-b-lt32 c = below_addresses c.args.b c.if-b-lt32.true
 
-returns-2 : tie.Need-returns-2
-returns-2 c = let s = c.before in among_addresses s.args.b c.if1.false s.ranges.b.fits
+returns : tie.Need-returns
+returns c = among_addresses c.args.b c.if-b-lt32.false c.ranges.b.fits
 
 pub has_command_spec : {M : Type 1} → statement M
-has_command_spec = tie.close (tie.spec (λ c. search rules) returns returns-2)
+has_command_spec = tie.close (tie.spec (λ c. search rules) returns-then-b-lt32 returns)

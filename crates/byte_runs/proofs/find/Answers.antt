@@ -1,19 +1,27 @@
-use Rattle.std.proofs.Common.{rules, ◌≡◌, ◌+◌, ◌≤◌, ◌++◌, drop, length, ℕ, ◌-◌, ◌*◌, ◌<◌, ◌/◌, ◌%◌, Bool, true, false, nat_eq, nat_lt, List, [], ◌∷◌, slice_index_or, slice_set, bit_and, bit_or, Fits, w8, w32, w64, Bor, MutBor}
-use Rattle.byte_runs.specs.Bytes.{index_of, slice}
+-- At a hit nothing is left to pass, at a miss one byte, and at the end there is none to find.
+use Rattle.std.proofs.Common.{◌≡◌, arith}
+use Rattle.byte_runs.proofs.Runs.{at_end, at_hit, at_miss}
 use Rattle.byte_runs.proofs.find.Goals as goal
 
--- src/lib.rt:22:5
-pub loop-i-init : goal.loop-i-init
-loop-i-init c = ?
-
--- src/lib.rt:24:13
 pub returns-then-s-i : goal.returns-then-s-i
-returns-then-s-i c = ?
+returns-then-s-i c = (
+  omega (
+    arith,
+    at_hit c.args.byte c.loop-i.i c.args.to c.args.s.now c.loop-i-test.true c.requires.1 c.if-s-i.true,
+    c.loop-i.invariant,
+  ),
+  omega arith,
+)
 
--- src/lib.rt:22:5
 pub loop-i-preserved : goal.loop-i-preserved
-loop-i-preserved c = ?
+loop-i-preserved c =
+    omega (
+      arith,
+      at_miss c.args.byte c.loop-i.i c.args.to c.args.s.now c.loop-i-test.true c.requires.1 c.if-s-i.false,
+      c.loop-i.invariant,
+    )
 
--- src/lib.rt:18:1
 pub returns : goal.returns
-returns c = ?
+returns c =
+    let e : c.loop-i.i ≡ c.args.to = omega arith in
+    (omega (arith, at_end c.args.byte c.args.to c.args.s.now, rw e at c.loop-i.invariant), omega arith)

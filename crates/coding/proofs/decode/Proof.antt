@@ -5,15 +5,15 @@ use Rattle.coding.specs.Coding.{decoded_as}
 use Rattle.coding.proofs.decode.Statement.{statement}
 use Rattle.coding.proofs.decode.Tie as tie
 
-returns : tie.Need-returns
-returns c =
-    let m = c.before.before in
-    sym (ap decoded_as (sym m.before.before.decode.ensures ∙ m.message.given.1))
+returns-in-Of : tie.Need-returns-in-Of
+returns-in-Of c =
+    let m = c in
+    sym (ap decoded_as (sym m.decode.ensures ∙ m.in-Of.is))
 
-returns-2 : tie.Need-returns-2
-returns-2 c =
-    let t = c.before in
-    c.no-decoding.ensures ∙ sym (ap decoded_as (sym t.before.before.decode.ensures ∙ t.enum_told.given.1))
+returns-in-BadFrame : tie.Need-returns-in-BadFrame
+returns-in-BadFrame c =
+    let t = c in
+    c.no_decoding.ensures ∙ sym (ap decoded_as (sym t.decode.ensures ∙ t.in-BadFrame.is))
 
 pub decode_spec : {M : Type 1} → statement M
 decode_spec =
@@ -24,5 +24,5 @@ decode_spec =
     (λ c. search rules)
     (λ c. search rules)
     (λ c κs. search rules)
-    returns
-    returns-2)
+    returns-in-Of
+    returns-in-BadFrame)

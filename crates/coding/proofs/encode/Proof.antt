@@ -5,15 +5,15 @@ use Rattle.coding.specs.Coding.{encoded_as}
 use Rattle.coding.proofs.encode.Statement.{statement}
 use Rattle.coding.proofs.encode.Tie as tie
 
-returns : tie.Need-returns
-returns c =
-    let m = c.before in
-    sym (ap encoded_as (sym m.before.before.encode.ensures ∙ m.frame.given.1))
+returns-in-Frame : tie.Need-returns-in-Frame
+returns-in-Frame c =
+    let m = c in
+    sym (ap encoded_as (sym m.encode.ensures ∙ m.in-Frame.is))
 
-returns-2 : tie.Need-returns-2
-returns-2 c =
-    let t = c.before in
-    c.no-encoding.ensures ∙ sym (ap encoded_as (sym t.before.before.encode.ensures ∙ t.enum_told.given.1))
+returns-in-BadFrame : tie.Need-returns-in-BadFrame
+returns-in-BadFrame c =
+    let t = c in
+    c.no_encoding.ensures ∙ sym (ap encoded_as (sym t.encode.ensures ∙ t.in-BadFrame.is))
 
 pub encode_spec : {M : Type 1} → statement M
 encode_spec =
@@ -23,5 +23,5 @@ encode_spec =
     (λ c. search rules)
     (λ c. search rules)
     (λ c κs. search rules)
-    returns
-    returns-2)
+    returns-in-Frame
+    returns-in-BadFrame)

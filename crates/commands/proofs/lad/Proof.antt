@@ -6,19 +6,15 @@ use Rattle.record.specs.Record.{device_of}
 use Rattle.commands.proofs.lad.Statement.{statement}
 use Rattle.commands.proofs.lad.Tie as tie
 
-returns : tie.Need-returns
+returns-then-has-2 : tie.Need-returns-then-has-2
 unfolding lad
-returns c =
-    let r = c.before.before.before in
-    let s = r.before.before.before.before.before.before in
-    rw (← r.to-remote.ensures (device_of s.args.rec.now)) (search (arms, c.roles.ensures))
+returns-then-has-2 c =
+    rw (← c.to_remote-moved.ensures (device_of c.args.rec.now)) (search (arms, c.roles.ensures))
 
-returns-2 : tie.Need-returns-2
+returns-then-has : tie.Need-returns-then-has
 unfolding lad
-returns-2 c =
-    let r = c.before.before.before in
-    let s = r.before.before.before.before.before.before in
-    rw (← r.to-remote.ensures (device_of s.args.rec.now)) (search (arms, c.listening.ensures))
+returns-then-has c =
+    rw (← c.to_remote-moved.ensures (device_of c.args.rec.now)) (search (arms, c.listening.ensures))
 
 pub lad_spec : {M : Type 1} → statement M
 unfolding lad
@@ -29,8 +25,8 @@ lad_spec =
     (λ c κs. search rules)
     (λ c κs. search rules)
     (λ c κs. search rules)
-    returns
+    returns-then-has-2
     (λ c κs. search rules)
-    returns-2
+    returns-then-has
     (λ c. search arms)
     (λ c. search arms))

@@ -17,6 +17,6 @@ tad_spec =
     (λ c κs. search rules)
     (λ c. search (arms, c.talking.ensures))
     (λ c κs. search rules)
-    (λ c. search (arms, c.talking2.ensures))
+    (λ c. search (arms, c.talking-then-address-state.ensures))
     (λ c κs. search rules)
-    (λ c. search (arms, c.talking3.ensures)))
+    (λ c. search (arms, c.talking-2.ensures)))

@@ -6,17 +6,15 @@ use borrow.Author.Rules.{rules}
 use Rattle.engine_addresses.proofs.addresses.Statement.{statement}
 use Rattle.engine_addresses.proofs.addresses.Tie as tie
 
+returns-then-rec-ne0 : tie.Need-returns-then-rec-ne0
+unfolding device_of
+returns-then-rec-ne0 c =
+    c.extended.ensures ∙ is_extended (device_of c.args.rec.now) c.if-rec-ne0.true
+
 returns : tie.Need-returns
 unfolding device_of
 returns c =
-    let t = c.before in
-    c.extended.ensures ∙ is_extended (device_of t.before.before.before.args.rec.now) t.if1.true
-
-returns-2 : tie.Need-returns-2
-unfolding device_of
-returns-2 c =
-    let t = c.before in
-    c.simple.ensures ∙ is_simple (device_of t.before.before.before.args.rec.now) t.if1.false
+    c.simple.ensures ∙ is_simple (device_of c.args.rec.now) c.if-rec-ne0.false
 
 pub addresses_spec : {M : Type 1} → statement M
 addresses_spec =
@@ -24,6 +22,6 @@ addresses_spec =
     (tie.spec
     (λ c. search rules)
     (λ c κs. search rules)
-    returns
+    returns-then-rec-ne0
     (λ c κs. search rules)
-    returns-2)
+    returns)

@@ -5,17 +5,15 @@ use borrow.Author.Rules.{rules}
 use Rattle.engine_addresses.proofs.extended.Statement.{statement}
 use Rattle.engine_addresses.proofs.extended.Tie as tie
 
+returns-then-configured-eq0 : tie.Need-returns-then-configured-eq0
+unfolding device_of
+returns-then-configured-eq0 c =
+    extended_unconfigured (device_of c.args.rec.now) c.if-configured-eq0.true
+
 returns : tie.Need-returns
 unfolding device_of
 returns c =
-    let t = c.before.before in
-    extended_unconfigured (device_of t.before.before.before.before.before.args.rec.now) t.if1.true
-
-returns-2 : tie.Need-returns-2
-unfolding device_of
-returns-2 c =
-    let t = c.before in
-    extended_assigned (device_of t.before.before.before.before.before.args.rec.now) t.if1.false
+    extended_assigned (device_of c.args.rec.now) c.if-configured-eq0.false
 
 pub extended_spec : {M : Type 1} → statement M
 extended_spec =
@@ -29,6 +27,6 @@ extended_spec =
     (λ c. search rules)
     (λ c. search rules)
     (λ c. search rules)
-    returns
+    returns-then-configured-eq0
     (λ c. search rules)
-    returns-2)
+    returns)

@@ -5,17 +5,15 @@ use borrow.Author.Rules.{rules}
 use Rattle.engine_addresses.proofs.simple.Statement.{statement}
 use Rattle.engine_addresses.proofs.simple.Tie as tie
 
+returns-then-configured-eq0 : tie.Need-returns-then-configured-eq0
+unfolding device_of
+returns-then-configured-eq0 c =
+    simple_unconfigured (device_of c.args.rec.now) c.if-configured-eq0.true
+
 returns : tie.Need-returns
 unfolding device_of
 returns c =
-    let t = c.before.before in
-    simple_unconfigured (device_of t.before.before.before.before.args.rec.now) t.if1.true
-
-returns-2 : tie.Need-returns-2
-unfolding device_of
-returns-2 c =
-    let t = c.before.before in
-    simple_configured (device_of t.before.before.before.before.args.rec.now) t.if1.false
+    simple_configured (device_of c.args.rec.now) c.if-configured-eq0.false
 
 pub simple_spec : {M : Type 1} → statement M
 simple_spec =
@@ -26,7 +24,7 @@ simple_spec =
     (λ c. search rules)
     (λ c. search rules)
     (λ c. search rules)
-    returns
+    returns-then-configured-eq0
     (λ c. search rules)
     (λ c. search rules)
-    returns-2)
+    returns)

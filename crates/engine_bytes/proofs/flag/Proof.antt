@@ -14,12 +14,11 @@ use Rattle.engine_bytes.proofs.flag.Tie as tie
 returns : tie.Need-returns
 unfolding record_of device_of
 returns c =
-    let s = c.before.before in
-    let b = s.args.rec.now in
-    let x = get_or b 20 0 % received + s.args.listen in
-    let y = get_or b 21 0 % received + s.args.talk in
+    let b = c.args.rec.now in
+    let x = get_or b 20 0 % received + c.args.listen in
+    let y = get_or b 21 0 % received + c.args.talk in
     stored (λ (r : List ℕ). set (set r 20 x) 21 y) (fixedsecond becomes x ∷ second becomes y ∷ []) (λ d. refl) b
-    s.requires.0
+    c.requires.0
 
 pub flag_spec : {M : Type 1} → statement M
 flag_spec =

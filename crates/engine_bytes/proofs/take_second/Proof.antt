@@ -15,18 +15,17 @@ use Rattle.engine_bytes.proofs.take_second.Tie as tie
 returns : tie.Need-returns
 unfolding record_of device_of
 returns c =
-    let s = c.before in
-    let b = s.args.rec.now in
-    let x = get_or b 21 0 / received * received + s.args.address in
-    stored (λ (r : List ℕ). set r 21 x) (second becomes x ∷ []) (λ d. refl) b s.requires.0
+    let b = c.args.rec.now in
+    let x = get_or b 21 0 / received * received + c.args.address in
+    stored (λ (r : List ℕ). set r 21 x) (second becomes x ∷ []) (λ d. refl) b c.requires.0
 
 pub take_second_spec : {M : Type 1} → statement M
 take_second_spec =
     tie.close
     (tie.spec
     (λ c. search rules)
-    (λ c. omega (arith, c.slice-known.given 21))
-    (λ c. omega (arith, c.slice-known.given 21, c.before.requires.1))
+    (λ c. omega (arith, c.slice_known-1.given 21))
+    (λ c. omega (arith, c.slice_known-1.given 21, c.requires.1))
     (λ c. search rules)
     (λ c. search rules)
     returns)

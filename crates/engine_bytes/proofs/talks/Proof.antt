@@ -7,4 +7,4 @@ use Rattle.engine_bytes.proofs.talks.Tie as tie
 
 pub talks_spec : {M : Type 1} → statement M
 unfolding device_of
-talks_spec = tie.close (tie.spec (λ c. search rules) (λ c. any_of_four _ (c.shared-slice-known.given 0).fits))
+talks_spec = tie.close (tie.spec (λ c. search rules) (λ c. any_of_four _ (c.shared_slice_known-1.given 0).fits))

@@ -16,19 +16,19 @@ zeros_pass : (h : Bool) → true ≡ (not (not h) || true)
 zeros_pass true = refl
 zeros_pass false = refl
 
-returns : tie.Need-returns
+returns-then-bit-status : tie.Need-returns-then-bit-status
 unfolding device_of
-returns c =
-    let b = c.before.before.before.args.rec.now in
+returns-then-bit-status c =
+    let b = c.args.rec.now in
     let x = eqb (get_or b 22 0) 0 in
     let y = eqb (get_or b 23 0) 0 in
-    let t : (x && y) ≡ true = c.if1.true in
+    let t : (x && y) ≡ true = c.if-bit-status.true in
     rw (eqb-true (get_or b 22 0) 0 (left x y t), eqb-true (get_or b 23 0) 0 (right x y t))
     (zeros_pass (not (eqb (bit_and (get_or b 7 0) 1) 0)))
 
-returns-2 : tie.Need-returns-2
+returns : tie.Need-returns
 unfolding device_of
-returns-2 c = refl
+returns c = refl
 
 pub poll_spec : {M : Type 1} → statement M
 poll_spec =
@@ -36,7 +36,7 @@ poll_spec =
     (tie.spec
     (λ c. search rules)
     (λ c. search rules)
-    returns
+    returns-then-bit-status
     (λ c. search rules)
     (λ c. search rules)
-    returns-2)
+    returns)

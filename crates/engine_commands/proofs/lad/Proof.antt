@@ -14,29 +14,21 @@ use Rattle.engine_commands.proofs.lad.Tie as tie
 
 -- to remote, and a listener
 listens : (c : tie.After-store) →
-    let s = c.before.before.before.before.before.before.before.before.before.before.before in
-    device_of c.store.new.0 ≡ listening (to_remote (device_of s.args.rec.now)) 1
+    device_of c.store.new.rec ≡ listening (to_remote (device_of c.args.rec.now)) 1
 listens c =
-    let r = c.before.before.before.before in
-    c.store.ensures.1 ∙ ap (λ (d : Device). listening d 1) r.to-remote.ensures.1
+    c.store.ensures.1 ∙ ap (λ (d : Device). listening d 1) c.to_remote.ensures.1
 
-returns-3 : tie.Need-returns-3
+returns-then-able-ne0 : tie.Need-returns-then-able-ne0
 unfolding device_of lad
-returns-3 c =
-    let t = c.before.before in
-    let i = t.before.before in
-    let n = i.before.before.before in
-    let j = n.before.before.before.before.before.before in
-    let e = t.talk.ensures.1 ∙ ap (λ (d : Device). talking d 0) (listens n) in
-    (t.talk.ensures.0, when_eq _ _ j.before.if1.false (able _ _ j.if2.false (able _ _ i.if3.true e)))
+returns-then-able-ne0 c =
+    let e = c.talk.ensures.1 ∙ ap (λ (d : Device). talking d 0) (listens c.before.before.before.before.before.before.before) in
+    (c.talk.ensures.0, when_eq _ _ c.if-address-rec.false (able _ _ c.if-able-eq0.false (able _ _ c.if-able-ne0.true e)))
 
-returns-4 : tie.Need-returns-4
+returns-else-able-ne0 : tie.Need-returns-else-able-ne0
 unfolding device_of lad
-returns-4 c =
-    let n = c.before.before.before in
-    let j = n.before.before.before.before.before.before in
-    let e = unable _ _ c.if3.false (listens n) in
-    (n.store.ensures.0, when_eq _ _ j.before.if1.false (able _ _ j.if2.false e))
+returns-else-able-ne0 c =
+    let e = unable _ _ c.if-able-ne0.false (listens c.before.before.before) in
+    (c.store.ensures.0, when_eq _ _ c.if-address-rec.false (able _ _ c.if-able-eq0.false e))
 
 pub lad_spec : {M : Type 1} → statement M
 unfolding device_of lad
@@ -51,6 +43,6 @@ lad_spec =
     (λ c κs. search rules)
     (λ c κs. search rules)
     (λ c. search rules)
-    returns-3
+    returns-then-able-ne0
     (λ c. search rules)
-    returns-4)
+    returns-else-able-ne0)

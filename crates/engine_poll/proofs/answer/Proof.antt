@@ -17,19 +17,19 @@ none x e = omega arith
 some : (x : ℕ) → (x ≡ 0 → ⊥) → 0 < x
 some x h = omega arith
 
+returns-then-told-eq0 : tie.Need-returns-then-told-eq0
+unfolding device_of answer
+returns-then-told-eq0 c = unless_lt _ _ (none _ c.if-told-eq0.true) (search arms)
+
+returns-then-rec-told : tie.Need-returns-then-rec-told
+unfolding device_of answer
+returns-then-rec-told c = when_lt _ _ (some _ c.if-told-eq0.false) (search arms)
+
 returns : tie.Need-returns
 unfolding device_of answer
-returns c = unless_lt _ _ (none _ c.if1.true) (search arms)
-
-returns-2 : tie.Need-returns-2
-unfolding device_of answer
-returns-2 c = when_lt _ _ (some _ c.before.before.if1.false) (search arms)
-
-returns-3 : tie.Need-returns-3
-unfolding device_of answer
-returns-3 c =
-    when_lt _ _ (some _ c.before.before.if1.false)
-    (when_eq _ _ c.if2.false (entry (λ (k : ℕ). 2 ^ k) 8 _ (omega arith)))
+returns c =
+    when_lt _ _ (some _ c.if-told-eq0.false)
+    (when_eq _ _ c.if-rec-told.false (entry (λ (k : ℕ). 2 ^ k) 8 _ (omega arith)))
 
 pub answer_spec : {M : Type 1} → statement M
 unfolding device_of
@@ -37,9 +37,9 @@ answer_spec =
     tie.close
     (tie.spec
     (λ c. search rules)
-    returns
+    returns-then-told-eq0
     (λ c. search rules)
-    returns-2
+    returns-then-rec-told
     (λ c. search rules)
     (λ c. search rules)
-    returns-3)
+    returns)

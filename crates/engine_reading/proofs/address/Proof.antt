@@ -7,5 +7,5 @@ pub address_spec : {M : Type 1} → statement M
 address_spec =
     tie.close
     (tie.spec
-    (λ c. rw (eq-eqb _ 31 c.if1.true))
-    (λ c. rw (ne_eqb _ 31 c.if1.false)))
+    (λ c. rw (eq-eqb _ 31 c.if-low-eq31.true))
+    (λ c. rw (ne_eqb _ 31 c.if-low-eq31.false)))

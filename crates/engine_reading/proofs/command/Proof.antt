@@ -15,45 +15,45 @@ g x = kind_at (0x400 + x)
 abbrev keys : List ℕ
 keys = 0 ∷ 1 ∷ 4 ∷ 5 ∷ 8 ∷ 17 ∷ 20 ∷ 21 ∷ 24 ∷ []
 
-returns : tie.Need-returns
+returns-in-0 : tie.Need-returns-in-0
 unfolding messages within lookup kind_at
-returns c = keyed g 0 c.match.keys1 refl
+returns-in-0 c = keyed g 0 c.in-0.is refl
 
-returns-2 : tie.Need-returns-2
+returns-in-1 : tie.Need-returns-in-1
 unfolding messages within lookup kind_at
-returns-2 c = keyed g 1 c.match.keys2 refl
+returns-in-1 c = keyed g 1 c.in-1.is refl
 
-returns-3 : tie.Need-returns-3
+returns-in-4 : tie.Need-returns-in-4
 unfolding messages within lookup kind_at
-returns-3 c = keyed g 4 c.match.keys3 refl
+returns-in-4 c = keyed g 4 c.in-4.is refl
 
-returns-4 : tie.Need-returns-4
+returns-in-5 : tie.Need-returns-in-5
 unfolding messages within lookup kind_at
-returns-4 c = keyed g 5 c.match.keys4 refl
+returns-in-5 c = keyed g 5 c.in-5.is refl
 
-returns-5 : tie.Need-returns-5
+returns-in-8 : tie.Need-returns-in-8
 unfolding messages within lookup kind_at
-returns-5 c = keyed g 8 c.match.keys5 refl
+returns-in-8 c = keyed g 8 c.in-8.is refl
 
-returns-6 : tie.Need-returns-6
+returns-in-17 : tie.Need-returns-in-17
 unfolding messages within lookup kind_at
-returns-6 c = keyed g 17 c.match.keys6 refl
+returns-in-17 c = keyed g 17 c.in-17.is refl
 
-returns-7 : tie.Need-returns-7
+returns-in-20 : tie.Need-returns-in-20
 unfolding messages within lookup kind_at
-returns-7 c = keyed g 20 c.match.keys7 refl
+returns-in-20 c = keyed g 20 c.in-20.is refl
 
-returns-8 : tie.Need-returns-8
+returns-in-21 : tie.Need-returns-in-21
 unfolding messages within lookup kind_at
-returns-8 c = keyed g 21 c.match.keys8 refl
+returns-in-21 c = keyed g 21 c.in-21.is refl
 
-returns-9 : tie.Need-returns-9
+returns-in-24 : tie.Need-returns-in-24
 unfolding messages within lookup kind_at
-returns-9 c = keyed g 24 c.match.keys9 refl
+returns-in-24 c = keyed g 24 c.in-24.is refl
 
-returns-10 : tie.Need-returns-10
+returns-in_default : tie.Need-returns-in_default
 unfolding messages within lookup kind_at
-returns-10 c =
+returns-in_default c =
     let x = c.before.args.low in
     others g (λ y. is_in y keys) 32 refl x c.before.requires (not_in x keys (
       search rules,
@@ -85,13 +85,13 @@ pub command_spec : {M : Type 1} → statement M
 command_spec =
     tie.close
     (tie.spec
-    returns
-    returns-2
-    returns-3
-    returns-4
-    returns-5
-    returns-6
-    returns-7
-    returns-8
-    returns-9
-    returns-10)
+    returns-in-0
+    returns-in-1
+    returns-in-4
+    returns-in-5
+    returns-in-8
+    returns-in-17
+    returns-in-20
+    returns-in-21
+    returns-in-24
+    returns-in_default)

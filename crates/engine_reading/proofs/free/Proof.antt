@@ -13,61 +13,61 @@ use Rattle.engine_reading.proofs.free.Tie as tie
 abbrev keys : List ℕ
 keys = 1 ∷ 2 ∷ 42 ∷ 12 ∷ 14 ∷ 16 ∷ 23 ∷ 24 ∷ 34 ∷ 36 ∷ 38 ∷ 40 ∷ 17 ∷ []
 
-returns : tie.Need-returns
+returns-in-1 : tie.Need-returns-in-1
 unfolding messages codes_in codes_of has_c1 free_bits
-returns c = keyed free_bits 1 c.match.keys1 refl
+returns-in-1 c = keyed free_bits 1 c.in-1.is refl
 
-returns-2 : tie.Need-returns-2
+returns-in-2 : tie.Need-returns-in-2
 unfolding messages codes_in codes_of has_c1 free_bits
-returns-2 c = keyed free_bits 2 c.match.keys2 refl
+returns-in-2 c = keyed free_bits 2 c.in-2.is refl
 
-returns-3 : tie.Need-returns-3
+returns-in-42 : tie.Need-returns-in-42
 unfolding messages codes_in codes_of has_c1 free_bits
-returns-3 c = keyed free_bits 42 c.match.keys3 refl
+returns-in-42 c = keyed free_bits 42 c.in-42.is refl
 
-returns-4 : tie.Need-returns-4
+returns-in-12 : tie.Need-returns-in-12
 unfolding messages codes_in codes_of has_c1 free_bits
-returns-4 c = keyed free_bits 12 c.match.keys4 refl
+returns-in-12 c = keyed free_bits 12 c.in-12.is refl
 
-returns-5 : tie.Need-returns-5
+returns-in-14 : tie.Need-returns-in-14
 unfolding messages codes_in codes_of has_c1 free_bits
-returns-5 c = keyed free_bits 14 c.match.keys5 refl
+returns-in-14 c = keyed free_bits 14 c.in-14.is refl
 
-returns-6 : tie.Need-returns-6
+returns-in-16 : tie.Need-returns-in-16
 unfolding messages codes_in codes_of has_c1 free_bits
-returns-6 c = keyed free_bits 16 c.match.keys6 refl
+returns-in-16 c = keyed free_bits 16 c.in-16.is refl
 
-returns-7 : tie.Need-returns-7
+returns-in-23 : tie.Need-returns-in-23
 unfolding messages codes_in codes_of has_c1 free_bits
-returns-7 c = keyed free_bits 23 c.match.keys7 refl
+returns-in-23 c = keyed free_bits 23 c.in-23.is refl
 
-returns-8 : tie.Need-returns-8
+returns-in-24 : tie.Need-returns-in-24
 unfolding messages codes_in codes_of has_c1 free_bits
-returns-8 c = keyed free_bits 24 c.match.keys8 refl
+returns-in-24 c = keyed free_bits 24 c.in-24.is refl
 
-returns-9 : tie.Need-returns-9
+returns-in-34 : tie.Need-returns-in-34
 unfolding messages codes_in codes_of has_c1 free_bits
-returns-9 c = keyed free_bits 34 c.match.keys9 refl
+returns-in-34 c = keyed free_bits 34 c.in-34.is refl
 
-returns-10 : tie.Need-returns-10
+returns-in-36 : tie.Need-returns-in-36
 unfolding messages codes_in codes_of has_c1 free_bits
-returns-10 c = keyed free_bits 36 c.match.keys10 refl
+returns-in-36 c = keyed free_bits 36 c.in-36.is refl
 
-returns-11 : tie.Need-returns-11
+returns-in-38 : tie.Need-returns-in-38
 unfolding messages codes_in codes_of has_c1 free_bits
-returns-11 c = keyed free_bits 38 c.match.keys11 refl
+returns-in-38 c = keyed free_bits 38 c.in-38.is refl
 
-returns-12 : tie.Need-returns-12
+returns-in-40 : tie.Need-returns-in-40
 unfolding messages codes_in codes_of has_c1 free_bits
-returns-12 c = keyed free_bits 40 c.match.keys12 refl
+returns-in-40 c = keyed free_bits 40 c.in-40.is refl
 
-returns-13 : tie.Need-returns-13
+returns-in-17 : tie.Need-returns-in-17
 unfolding messages codes_in codes_of has_c1 free_bits
-returns-13 c = keyed free_bits 17 c.match.keys13 refl
+returns-in-17 c = keyed free_bits 17 c.in-17.is refl
 
-returns-14 : tie.Need-returns-14
+returns-in_default : tie.Need-returns-in_default
 unfolding messages codes_in codes_of has_c1 free_bits
-returns-14 c =
+returns-in_default c =
     let k = c.before.args.kind in
     others free_bits (λ x. is_in x keys) kinds refl k c.before.requires (not_in k keys (
       search rules,
@@ -114,17 +114,17 @@ pub free_spec : {M : Type 1} → statement M
 free_spec =
     tie.close
     (tie.spec
-    returns
-    returns-2
-    returns-3
-    returns-4
-    returns-5
-    returns-6
-    returns-7
-    returns-8
-    returns-9
-    returns-10
-    returns-11
-    returns-12
-    returns-13
-    returns-14)
+    returns-in-1
+    returns-in-2
+    returns-in-42
+    returns-in-12
+    returns-in-14
+    returns-in-16
+    returns-in-23
+    returns-in-24
+    returns-in-34
+    returns-in-36
+    returns-in-38
+    returns-in-40
+    returns-in-17
+    returns-in_default)

@@ -14,89 +14,89 @@ use Rattle.engine_reading.proofs.grouped.Tie as tie
 abbrev keys : List ℕ
 keys = 32 ∷ 33 ∷ 34 ∷ 35 ∷ 36 ∷ 37 ∷ 38 ∷ 40 ∷ 42 ∷ 43 ∷ 44 ∷ 45 ∷ 46 ∷ 47 ∷ []
 
-returns : tie.Need-returns
-returns c =
+returns-in-32 : tie.Need-returns-in-32
+returns-in-32 c =
     let m = c.before in
     let f = m.before.args.frame in
-    c.command.ensures ∙ ap kind_at (omega (arith, m.match.keys1))
+    c.command.ensures ∙ ap kind_at (omega (arith, m.in-32.is))
 
-returns-2 : tie.Need-returns-2
+returns-in-33 : tie.Need-returns-in-33
 unfolding messages within lookup kind_at
-returns-2 c =
+returns-in-33 c =
     let m = c.before in
-    c.address.ensures ∙ in_group 33 (λ x. cond (eqb x 31) 13 12) refl m.before.args.frame m.match.keys2
+    c.address.ensures ∙ in_group 33 (λ x. cond (eqb x 31) 13 12) refl m.before.args.frame m.in-33.is
 
-returns-3 : tie.Need-returns-3
+returns-in-34 : tie.Need-returns-in-34
 unfolding messages within lookup kind_at
-returns-3 c =
+returns-in-34 c =
     let m = c.before in
-    c.address2.ensures ∙ in_group 34 (λ x. cond (eqb x 31) 15 14) refl m.before.args.frame m.match.keys3
+    c.address-in-34.ensures ∙ in_group 34 (λ x. cond (eqb x 31) 15 14) refl m.before.args.frame m.in-34.is
 
-returns-4 : tie.Need-returns-4
+returns-in-35 : tie.Need-returns-in-35
 unfolding messages within lookup kind_at
-returns-4 c =
+returns-in-35 c =
     let m = c.before in
-    c.address3.ensures ∙ in_group 35 (λ x. cond (eqb x 31) 0 16) refl m.before.args.frame m.match.keys4
+    c.address-in-35.ensures ∙ in_group 35 (λ x. cond (eqb x 31) 0 16) refl m.before.args.frame m.in-35.is
 
-returns-5 : tie.Need-returns-5
-returns-5 c =
+returns-in-36 : tie.Need-returns-in-36
+returns-in-36 c =
     let m = c.before in
     let f = m.before.args.frame in
-    c.later-command.ensures ∙ ap kind_at (omega (arith, m.match.keys5))
+    c.later_command.ensures ∙ ap kind_at (omega (arith, m.in-36.is))
 
-returns-6 : tie.Need-returns-6
+returns-in-37 : tie.Need-returns-in-37
 unfolding messages within lookup kind_at
-returns-6 c = in_group 37 (λ x. 23) refl c.before.args.frame c.match.keys6
+returns-in-37 c = in_group 37 (λ x. 23) refl c.before.args.frame c.in-37.is
 
-returns-7 : tie.Need-returns-7
+returns-in-38 : tie.Need-returns-in-38
 unfolding messages within lookup kind_at
-returns-7 c = in_group 38 (λ x. 24) refl c.before.args.frame c.match.keys7
+returns-in-38 c = in_group 38 (λ x. 24) refl c.before.args.frame c.in-38.is
 
-returns-8 : tie.Need-returns-8
+returns-in-40 : tie.Need-returns-in-40
 unfolding messages within lookup kind_at
-returns-8 c =
+returns-in-40 c =
     let m = c.before in
-    c.row.ensures ∙ in_group 40 (λ x. cond (ltb x 1) (25 + x) 0) refl m.before.args.frame m.match.keys8
+    c.row.ensures ∙ in_group 40 (λ x. cond (ltb x 1) (25 + x) 0) refl m.before.args.frame m.in-40.is
 
-returns-9 : tie.Need-returns-9
+returns-in-42 : tie.Need-returns-in-42
 unfolding messages within lookup kind_at
-returns-9 c =
+returns-in-42 c =
     let m = c.before in
-    c.row2.ensures ∙ in_group 42 (λ x. cond (ltb x 3) (26 + x) 0) refl m.before.args.frame m.match.keys9
+    c.row-in-42.ensures ∙ in_group 42 (λ x. cond (ltb x 3) (26 + x) 0) refl m.before.args.frame m.in-42.is
 
-returns-10 : tie.Need-returns-10
+returns-in-43 : tie.Need-returns-in-43
 unfolding messages within lookup kind_at
-returns-10 c =
+returns-in-43 c =
     let m = c.before in
-    c.row3.ensures ∙ in_group 43 (λ x. cond (ltb x 5) (29 + x) 0) refl m.before.args.frame m.match.keys10
+    c.row-in-43.ensures ∙ in_group 43 (λ x. cond (ltb x 5) (29 + x) 0) refl m.before.args.frame m.in-43.is
 
-returns-11 : tie.Need-returns-11
+returns-in-44 : tie.Need-returns-in-44
 unfolding messages within lookup kind_at
-returns-11 c =
+returns-in-44 c =
     let m = c.before in
-    c.address4.ensures ∙ in_group 44 (λ x. cond (eqb x 31) 35 34) refl m.before.args.frame m.match.keys11
+    c.address-in-44.ensures ∙ in_group 44 (λ x. cond (eqb x 31) 35 34) refl m.before.args.frame m.in-44.is
 
-returns-12 : tie.Need-returns-12
+returns-in-45 : tie.Need-returns-in-45
 unfolding messages within lookup kind_at
-returns-12 c =
+returns-in-45 c =
     let m = c.before in
-    c.address5.ensures ∙ in_group 45 (λ x. cond (eqb x 31) 37 36) refl m.before.args.frame m.match.keys12
+    c.address-in-45.ensures ∙ in_group 45 (λ x. cond (eqb x 31) 37 36) refl m.before.args.frame m.in-45.is
 
-returns-13 : tie.Need-returns-13
+returns-in-46 : tie.Need-returns-in-46
 unfolding messages within lookup kind_at
-returns-13 c =
+returns-in-46 c =
     let m = c.before in
-    c.address6.ensures ∙ in_group 46 (λ x. cond (eqb x 31) 39 38) refl m.before.args.frame m.match.keys13
+    c.address-in-46.ensures ∙ in_group 46 (λ x. cond (eqb x 31) 39 38) refl m.before.args.frame m.in-46.is
 
-returns-14 : tie.Need-returns-14
+returns-in-47 : tie.Need-returns-in-47
 unfolding messages within lookup kind_at
-returns-14 c =
+returns-in-47 c =
     let m = c.before in
-    c.address7.ensures ∙ in_group 47 (λ x. cond (eqb x 31) 41 40) refl m.before.args.frame m.match.keys14
+    c.address-in-47.ensures ∙ in_group 47 (λ x. cond (eqb x 31) 41 40) refl m.before.args.frame m.in-47.is
 
-returns-15 : tie.Need-returns-15
+returns-in_default : tie.Need-returns-in_default
 unfolding messages within lookup kind_at
-returns-15 c =
+returns-in_default c =
     let f = c.before.args.frame in
     let p = c.before.requires in
     let e : 0x400 + (f - 0x400) ≡ f = omega (arith, p) in
@@ -154,18 +154,18 @@ grouped_spec =
     (λ c κs. search rules)
     (λ c κs. search rules)
     (λ c κs. search rules)
-    returns
-    returns-2
-    returns-3
-    returns-4
-    returns-5
-    returns-6
-    returns-7
-    returns-8
-    returns-9
-    returns-10
-    returns-11
-    returns-12
-    returns-13
-    returns-14
-    returns-15)
+    returns-in-32
+    returns-in-33
+    returns-in-34
+    returns-in-35
+    returns-in-36
+    returns-in-37
+    returns-in-38
+    returns-in-40
+    returns-in-42
+    returns-in-43
+    returns-in-44
+    returns-in-45
+    returns-in-46
+    returns-in-47
+    returns-in_default)

@@ -13,9 +13,9 @@ unfolding messages first_in codes_in first_of codes_of
 kind_spec =
     tie.close
     (tie.spec
-    (λ c. ranged 1 _ (omega arith) (omega (arith, c.if1.true)))
-    (λ c. ranged 2 _ (omega (arith, c.before.if1.false)) (omega (arith, c.if2.true)))
+    (λ c. ranged 1 _ (omega arith) (omega (arith, c.if-frame-lt512.true)))
+    (λ c. ranged 2 _ (omega (arith, c.before.if-frame-lt512.false)) (omega (arith, c.if-frame-lt1024.true)))
     (λ c κs. search rules)
     (λ c. search rules)
-    (λ c. ranged 42 _ (omega (arith, c.before.if3.false)) (omega (arith, c.if4.true)))
-    (λ c. sym (no_frame _ c.if4.false)))
+    (λ c. ranged 42 _ (omega (arith, c.before.if-frame-lt1536.false)) (omega (arith, c.if-frame-lt2048.true)))
+    (λ c. sym (no_frame _ c.if-frame-lt2048.false)))

@@ -19,37 +19,37 @@ g x = kind_at (0x480 + x)
 abbrev keys : List ℕ
 keys = 16 ∷ 18 ∷ 19 ∷ 26 ∷ 27 ∷ []
 
-returns : tie.Need-returns
+returns-then-low-lt16 : tie.Need-returns-then-low-lt16
 unfolding messages within lookup kind_at
-returns c = same (λ x. 17) g 16 _ refl c.if1.true
+returns-then-low-lt16 c = same (λ x. 17) g 16 _ refl c.if-low-lt16.true
 
-returns-2 : tie.Need-returns-2
+returns-in-16 : tie.Need-returns-in-16
 unfolding messages within lookup kind_at
-returns-2 c = keyed g 16 c.match.keys1 refl
+returns-in-16 c = keyed g 16 c.in-16.is refl
 
-returns-3 : tie.Need-returns-3
+returns-in-18 : tie.Need-returns-in-18
 unfolding messages within lookup kind_at
-returns-3 c = keyed g 18 c.match.keys2 refl
+returns-in-18 c = keyed g 18 c.in-18.is refl
 
-returns-4 : tie.Need-returns-4
+returns-in-19 : tie.Need-returns-in-19
 unfolding messages within lookup kind_at
-returns-4 c = keyed g 19 c.match.keys3 refl
+returns-in-19 c = keyed g 19 c.in-19.is refl
 
-returns-5 : tie.Need-returns-5
+returns-in-26 : tie.Need-returns-in-26
 unfolding messages within lookup kind_at
-returns-5 c = keyed g 26 c.match.keys4 refl
+returns-in-26 c = keyed g 26 c.in-26.is refl
 
-returns-6 : tie.Need-returns-6
+returns-in-27 : tie.Need-returns-in-27
 unfolding messages within lookup kind_at
-returns-6 c = keyed g 27 c.match.keys5 refl
+returns-in-27 c = keyed g 27 c.in-27.is refl
 
-returns-7 : tie.Need-returns-7
+returns-in_default : tie.Need-returns-in_default
 unfolding messages within lookup kind_at
-returns-7 c =
+returns-in_default c =
     let i = c.before in
     let x = i.before.args.low in
     others g (λ y. ltb y 16 || is_in y keys) 32 refl x i.before.requires
-    (rw (le-ltb x 16 i.if1.false) (not_in x keys (
+    (rw (le-ltb x 16 i.if-low-lt16.false) (not_in x keys (
       search rules,
       (
         search rules,
@@ -64,10 +64,10 @@ pub later_command_spec : {M : Type 1} → statement M
 later_command_spec =
     tie.close
     (tie.spec
-    returns
-    returns-2
-    returns-3
-    returns-4
-    returns-5
-    returns-6
-    returns-7)
+    returns-then-low-lt16
+    returns-in-16
+    returns-in-18
+    returns-in-19
+    returns-in-26
+    returns-in-27
+    returns-in_default)

@@ -9,5 +9,5 @@ row_spec =
     tie.close
     (tie.spec
     (λ c. search rules)
-    (λ c. rw (lt-ltb _ _ c.if1.true))
-    (λ c. rw (le-ltb _ _ c.if1.false)))
+    (λ c. rw (lt-ltb _ _ c.if-low-count.true))
+    (λ c. rw (le-ltb _ _ c.if-low-count.false)))

@@ -19,20 +19,20 @@ last : (k : ℕ) → has_c1 k ≡ true → (k ≡ dab → ⊥) → (k ≡ end �
 unfolding has_c1
 last k t p q = eqb-true k idy (rw (ne_eqb k dab p, ne_eqb k end q) at t)
 
+returns-then-message-eq-DAB : tie.Need-returns-then-message-eq-DAB
+unfolding messages first_in first_of
+returns-then-message-eq-DAB c = let e = first_is _ dab 0 c.if-message-eq-DAB.true refl in omega arith
+
+returns-then-message-eq-END : tie.Need-returns-then-message-eq-END
+unfolding messages first_in first_of
+returns-then-message-eq-END c = let e = first_is _ end 0x200 c.if-message-eq-END.true refl in omega arith
+
 returns : tie.Need-returns
 unfolding messages first_in first_of
-returns c = let e = first_is _ dab 0 c.if1.true refl in omega arith
-
-returns-2 : tie.Need-returns-2
-unfolding messages first_in first_of
-returns-2 c = let e = first_is _ end 0x200 c.if2.true refl in omega arith
-
-returns-3 : tie.Need-returns-3
-unfolding messages first_in first_of
-returns-3 c =
+returns c =
     let i = c.before.before in
     let s = i.before.before.before.before in
-    let e = first_is _ idy 0x600 (last s.args.message.kind s.requires.0 i.if1.false c.if2.false) refl in
+    let e = first_is _ idy 0x600 (last s.args.message.kind s.requires.0 i.if-message-eq-DAB.false c.if-message-eq-END.false) refl in
     omega arith
 
 pub write_spec : {M : Type 1} → statement M
@@ -43,8 +43,8 @@ write_spec =
     (λ c. search rules)
     (λ c. search rules)
     (λ c. search rules)
-    returns
+    returns-then-message-eq-DAB
     (λ c. search rules)
-    returns-2
+    returns-then-message-eq-END
     (λ c. search rules)
-    returns-3)
+    returns)

@@ -5,9 +5,7 @@ use Rattle.engine_remote.proofs.nre.Tie as tie
 
 returns : tie.Need-returns
 returns c =
-    let n = c.before.before in
-    let m = n.before.before.before.before in
-    (n.store2.ensures.0, rw (n.store2.ensures.1, m.store.ensures.1))
+    (c.store-2.ensures.0, rw (c.store-2.ensures.1, c.store.ensures.1))
 
 pub nre_spec : {M : Type 1} → statement M
 nre_spec =

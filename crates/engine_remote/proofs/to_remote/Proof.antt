@@ -11,20 +11,18 @@ use Rattle.engine_remote.proofs.Moves.{by_bits}
 use Rattle.engine_remote.proofs.to_remote.Statement.{statement}
 use Rattle.engine_remote.proofs.to_remote.Tie as tie
 
-returns : tie.Need-returns
+returns-then-rec-eq1 : tie.Need-returns-then-rec-eq1
 unfolding device_of to_remote moves choose
-returns c =
-    let n = c.before.before in
-    let i = n.before.before in
-    let d = device_of i.before.before.before.args.rec.now in (
-      n.bits.ensures.0,
-      when_eq _ _ i.if1.true (n.bits.ensures.1 ∙ by_bits 3 1 LOCS REMS LWLS RWLS refl (omega arith) (omega arith) d),
+returns-then-rec-eq1 c =
+    let d = device_of c.args.rec.now in (
+      c.bits.ensures.0,
+      when_eq _ _ c.if-rec-eq1.true (c.bits.ensures.1 ∙ by_bits 3 1 LOCS REMS LWLS RWLS refl (omega arith) (omega arith) d),
     )
 
-returns-2 : tie.Need-returns-2
+returns-else-rec-eq1 : tie.Need-returns-else-rec-eq1
 unfolding device_of to_remote
-returns-2 c = (search rules, search arms)
+returns-else-rec-eq1 c = (search rules, search arms)
 
 pub to_remote_spec : {M : Type 1} → statement M
 unfolding device_of
-to_remote_spec = tie.close (tie.spec (λ c. search rules) (λ c κs. search rules) (λ c. search rules) returns returns-2)
+to_remote_spec = tie.close (tie.spec (λ c. search rules) (λ c κs. search rules) (λ c. search rules) returns-then-rec-eq1 returns-else-rec-eq1)

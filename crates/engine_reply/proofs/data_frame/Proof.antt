@@ -13,21 +13,19 @@ use Rattle.record.specs.Record.{device_of}
 use Rattle.engine_reply.proofs.data_frame.Statement.{statement}
 use Rattle.engine_reply.proofs.data_frame.Tie as tie
 
+returns-then-rec : tie.Need-returns-then-rec
+unfolding data_frame device_of
+returns-then-rec c =
+    let d = device_of c.args.rec.now in
+    let t : (eqb (d.sent + 1) d.loadlength && eqb d.choice end_last) ≡ true = c.if-rec.true in
+    rw (← c.data_next-offset.ensures) (when _ _ refl t c.marked.ensures)
+
 returns : tie.Need-returns
 unfolding data_frame device_of
 returns c =
-    let b = c.before.before.before.before.before in
-    let d = device_of b.before.before.args.rec.now in
-    let t : (eqb (d.sent + 1) d.loadlength && eqb d.choice end_last) ≡ true = c.before.if1.true in
-    rw (← b.data-next.ensures) (when _ _ refl t c.marked.ensures)
-
-returns-2 : tie.Need-returns-2
-unfolding data_frame device_of
-returns-2 c =
-    let b = c.before.before.before.before.before in
-    let d = device_of b.before.before.args.rec.now in
-    let t : (eqb (d.sent + 1) d.loadlength && eqb d.choice end_last) ≡ false = c.before.if1.false in
-    rw (← b.data-next.ensures) (unless _ _ refl t c.marked2.ensures)
+    let d = device_of c.args.rec.now in
+    let t : (eqb (d.sent + 1) d.loadlength && eqb d.choice end_last) ≡ false = c.if-rec.false in
+    rw (← c.data_next-offset.ensures) (unless _ _ refl t c.marked-2.ensures)
 
 pub data_frame_spec : {M : Type 1} → statement M
 unfolding device_of has_c1
@@ -36,10 +34,10 @@ data_frame_spec =
     (tie.spec
     (λ c κs. search rules)
     (λ c. search rules)
-    (λ c. omega (arith, c.before.before.before.requires.1, c.shared-slice-known2.given 12))
+    (λ c. omega (arith, c.requires.1, c.shared_slice_known-2-1.given 12))
     (λ c. search rules)
     (λ c. search rules)
     (λ c κs. (search rules, refl, omega arith))
-    returns
+    returns-then-rec
     (λ c κs. (search rules, refl, omega arith))
-    returns-2)
+    returns)

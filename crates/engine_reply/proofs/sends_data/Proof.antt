@@ -11,10 +11,9 @@ use Rattle.engine_reply.proofs.sends_data.Tie as tie
 returns : tie.Need-returns
 unfolding device_of sends_data
 returns c =
-    let n = c.before.before in
-    let f = n.before.before.before.before in (
-      n.count.ensures.0,
-      rw (← f.data_frame.ensures) (ap (λ (d : Device). sends d f.data_frame.result) n.count.ensures.1),
+    (
+      c.count.ensures.0,
+      rw (← c.data_frame-frame.ensures) (ap (λ (d : Device). sends d c.data_frame-frame.result) c.count.ensures.1),
     )
 
 pub sends_data_spec : {M : Type 1} → statement M
@@ -25,7 +24,7 @@ sends_data_spec =
     (λ c κs. search rules)
     (λ c. search rules)
     (λ c. search rules)
-    (λ c. omega (arith, c.before.before.before.before.before.before.requires.1, c.before.slice-known3.given 12))
+    (λ c. omega (arith, c.requires.1, c.slice_known-3-1.given 12))
     (λ c κs. search rules)
     (λ c. search rules)
     returns)

@@ -12,12 +12,10 @@ use Rattle.engine_reply.proofs.sends_other.Tie as tie
 returns : tie.Need-returns
 unfolding device_of sends_other
 returns c =
-    let n = c.before.before in
-    let m = n.before.before.before.before in
-    let o = m.before.before in (
-      n.count.ensures.0,
-      rw (← o.other_byte.ensures, ← m.marked.ensures)
-          (ap (λ (d : Device). sends d m.marked.result) n.count.ensures.1),
+    (
+      c.count.ensures.0,
+      rw (← c.other_byte-offset.ensures, ← c.marked-frame.ensures)
+          (ap (λ (d : Device). sends d c.marked-frame.result) c.count.ensures.1),
     )
 
 pub sends_other_spec : {M : Type 1} → statement M

@@ -12,9 +12,9 @@ last_spec =
     tie.close
     (tie.spec
     (λ c. search rules)
-    (λ c. omega (arith, c.shared-slice-known.given 14))
+    (λ c. omega (arith, c.shared_slice_known-1.given 14))
     (λ c. search rules)
-    (λ c. omega (arith, c.shared-slice-known2.given 15))
-    (λ c. omega (arith, c.shared-slice-known2.given 15))
-    (λ c. omega (arith, c.before.shared-slice-known.given 14, c.shared-slice-known2.given 15))
+    (λ c. omega (arith, c.shared_slice_known-2-1.given 15))
+    (λ c. omega (arith, c.shared_slice_known-2-1.given 15))
+    (λ c. omega (arith, c.shared_slice_known-1.given 14, c.shared_slice_known-2-1.given 15))
     (λ c. refl))

@@ -8,8 +8,7 @@ use Rattle.engine_talker.proofs.quiet.Tie as tie
 returns : tie.Need-returns
 unfolding device_of
 returns c =
-    let s = c.before.before.before.before.before.before.before.before.before in
-    rw c.last.ensures (quiet_right (device_of s.args.rec.now) s.requires.1)
+    rw c.last.ensures (quiet_right (device_of c.args.rec.now) c.requires.1)
 
 pub quiet_spec : {M : Type 1} → statement M
 quiet_spec =

@@ -8,8 +8,7 @@ use Rattle.engine_talker.proofs.replies.Tie as tie
 returns : tie.Need-returns
 unfolding device_of
 returns c =
-    let s = c.before.before.before.before.before.before.before.before.before in
-    rw c.last.ensures (replies_right (device_of s.args.rec.now) s.requires.1)
+    rw c.last.ensures (replies_right (device_of c.args.rec.now) c.requires.1)
 
 pub replies_spec : {M : Type 1} → statement M
 replies_spec =

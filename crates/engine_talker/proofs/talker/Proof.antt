@@ -11,6 +11,6 @@ talker_spec =
     (λ c κs. search rules)
     (λ c. c.quiet.ensures)
     (λ c κs. search rules)
-    (λ c. c.sends-data.ensures)
+    (λ c. c.sends_data.ensures)
     (λ c κs. search rules)
     (λ c. c.replies.ensures))

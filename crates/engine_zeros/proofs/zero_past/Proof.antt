@@ -10,37 +10,34 @@ use borrow.Author.Rules.{rules}
 use Rattle.engine_zeros.proofs.zero_past.Statement.{statement}
 use Rattle.engine_zeros.proofs.zero_past.Tie as tie
 
-abbrev invariant-loop : tie.invariant-loop
-invariant-loop bytes from width past zero₀ i₀ zero i =
+abbrev invariant-loop-i : tie.invariant-loop-i
+invariant-loop-i bytes from width past zero₀ i₀ zero i =
     (zero && left bytes from width past i) ≡ zeros (drop past (bytes_from from width bytes))
 
-abbrev decreases-loop : tie.decreases-loop
-decreases-loop bytes from width past zero₀ i₀ zero i = width - i
+abbrev decreases-loop-i : tie.decreases-loop-i
+decreases-loop-i bytes from width past zero₀ i₀ zero i = width - i
 
-loop-holds : tie.Need-loop-init invariant-loop decreases-loop
+loop-holds : tie.Need-loop-i-init invariant-loop-i decreases-loop-i
 loop-holds c = let a = c.args in all_left a.bytes.now a.from a.width a.past
 
-loop-again : tie.Need-loop-preserved invariant-loop decreases-loop
+loop-again : tie.Need-loop-i-preserved invariant-loop-i decreases-loop-i
 loop-again c =
-    let t = c.before in
-    let l = t.before in
-    let a = l.before.args in
-    turned a.bytes.now a.from a.width a.past l.loop.i l.loop.zero t.loop-test.true
-    ∙ l.loop.invariant
+    let a = c.args in
+    turned a.bytes.now a.from a.width a.past c.loop-i.i c.loop-i.zero c.loop-i-test.true
+    ∙ c.loop-i.invariant
 
-returns : tie.Need-returns invariant-loop decreases-loop
+returns : tie.Need-returns invariant-loop-i decreases-loop-i
 returns c =
-    let l = c.before in
-    let a = l.before.args in
-    sym (none_left a.bytes.now a.from a.width a.past l.loop.i l.loop.zero c.loop-test.false)
-    ∙ l.loop.invariant
+    let a = c.args in
+    sym (none_left a.bytes.now a.from a.width a.past c.loop-i.i c.loop-i.zero c.loop-i-test.false)
+    ∙ c.loop-i.invariant
 
 pub zero_past_spec : {M : Type 1} → statement M
 zero_past_spec =
     tie.close
     (tie.spec
-    invariant-loop
-    decreases-loop
+    invariant-loop-i
+    decreases-loop-i
     loop-holds
     (λ c. search rules)
     (λ c. search rules)

@@ -17,11 +17,10 @@ moved x =
     let h : 2 ^ (x % 8) < 256 = pow-lt {i = x % 8} {j = 8} (omega arith) in
     rw (one-mul (2 ^ (x % 8))) (mod-eq_of_lt h)
 
-returns : tie.Need-returns
+returns-then-rec-state : tie.Need-returns-then-rec-state
 unfolding answer device_of
-returns c =
-    let i = c.before in
-    when_lt _ _ i.before.before.before.if1.true (when_eq _ _ i.if2.true (moved _))
+returns-then-rec-state c =
+    when_lt _ _ c.if-state-gt-UNASSIGNED.true (when_eq _ _ c.if-rec-state.true (moved _))
 
 pub answer_spec : {M : Type 1} → statement M
 unfolding answer device_of
@@ -30,6 +29,6 @@ answer_spec =
     (tie.spec
     (λ c. search rules)
     (λ c. search rules)
-    returns
+    returns-then-rec-state
     (λ c. search arms)
     (λ c. search arms))

@@ -6,15 +6,11 @@ use Rattle.record.specs.Record.{device_of}
 use Rattle.poll.proofs.ppe.Statement.{statement}
 use Rattle.poll.proofs.ppe.Tie as tie
 
-returns-2 : tie.Need-returns-2
+returns-then-has_further : tie.Need-returns-then-has_further
 unfolding ppe
-returns-2 c =
-    let i = c.before in
-    let h = i.before in
-    let l = h.before in
-    let s = l.before.before.before in
-    when_eq _ _ l.if1.false
-    (when _ _ h.has-further.ensures i.if2.true (c.assigning.ensures (device_of s.args.rec.now)))
+returns-then-has_further c =
+    when_eq _ _ c.if-state-ne1.false
+    (when _ _ c.has_further.ensures c.if-has_further.true (c.assigning.ensures (device_of c.args.rec.now)))
 
 pub ppe_spec : {M : Type 1} → statement M
 unfolding ppe
@@ -25,5 +21,5 @@ ppe_spec =
     (λ c κs. search rules)
     (λ c. search rules)
     (λ c κs. search rules)
-    returns-2
+    returns-then-has_further
     (λ c. search arms))

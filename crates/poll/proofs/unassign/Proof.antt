@@ -10,5 +10,5 @@ unassign_spec =
     tie.close
     (tie.spec
     (λ c κs. search rules)
-    (λ c d. when _ _ refl c.before.if1.true (c.assigning.ensures d))
-    (λ c d. unless _ _ refl c.if1.false refl))
+    (λ c d. when _ _ refl c.if-here.true (c.assigning.ensures d))
+    (λ c d. unless _ _ refl c.if-here.false refl))

@@ -17,24 +17,19 @@ module _ (o : Decoded) (m : Message) (e : o ≡ decoder.Of m) where
   other_refused : (m.kind ≡ idy → ⊥) → no_count 4 ≡ counted_as o
   other_refused k = rw (e, ne_eqb m.kind idy k)
 
+returns-in_default : tie.Need-returns-in_default
+returns-in_default c =
+    c.no_count.ensures ∙ sym (ap counted_as (sym c.decode.ensures ∙ c.in_default.is))
+
+returns-then-message-eq-IDY : tie.Need-returns-then-message-eq-IDY
+returns-then-message-eq-IDY c =
+    c.counted.ensures
+    ∙ idy_counted _ _ (sym c.decode.ensures ∙ c.in-Of.is) c.if-message-eq-IDY.true
+
 returns : tie.Need-returns
 returns c =
-    let t = c.before in
-    c.no-count.ensures ∙ sym (ap counted_as (sym t.before.before.decode.ensures ∙ t.enum_told.given.1))
-
-returns-2 : tie.Need-returns-2
-returns-2 c =
-    let i = c.before in
-    let m = i.before.before.before in
-    c.counted.ensures
-    ∙ idy_counted _ _ (sym m.before.before.decode.ensures ∙ m.message.given.1) i.if1.true
-
-returns-3 : tie.Need-returns-3
-returns-3 c =
-    let i = c.before in
-    let m = i.before.before.before in
-    c.no-count2.ensures
-    ∙ other_refused _ _ (sym m.before.before.decode.ensures ∙ m.message.given.1) i.if1.false
+    c.no_count-2.ensures
+    ∙ other_refused _ _ (sym c.decode.ensures ∙ c.in-Of.is) c.if-message-eq-IDY.false
 
 pub poll_count_spec : {M : Type 1} → statement M
 poll_count_spec =
@@ -44,8 +39,8 @@ poll_count_spec =
     (λ c. search rules)
     (λ c. search rules)
     (λ c κs. search rules)
-    returns
+    returns-in_default
     (λ c κs. search rules)
-    returns-2
+    returns-then-message-eq-IDY
     (λ c κs. search rules)
-    returns-3)
+    returns)

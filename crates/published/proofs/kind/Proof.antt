@@ -8,9 +8,9 @@ use Rattle.frame.proofs.Table.{entry}
 use Rattle.published.proofs.kind.Statement.{statement}
 use Rattle.published.proofs.kind.Tie as tie
 
-returns : tie.Need-returns
+returns-then-frame : tie.Need-returns-then-frame
 unfolding messages within lookup kind_at
-returns c = entry kind_at frames _ c.if1.true
+returns-then-frame c = entry kind_at frames _ c.if-frame.true
 
 pub kind_spec : {M : Type 1} → statement M
-kind_spec = tie.close (tie.spec (λ c. search rules) returns (λ c. sym (no_frame _ c.if1.false)))
+kind_spec = tie.close (tie.spec (λ c. search rules) returns-then-frame (λ c. sym (no_frame _ c.if-frame.false)))

@@ -9,12 +9,12 @@ use lib.ListN.{get_or}
 use Rattle.record.proofs.word_at.Statement.{statement}
 use Rattle.record.proofs.word_at.Tie as tie
 
-low : (c : tie.After-shared-slice-known) → Fits w8 (get_or c.before.args.s.now c.before.args.at 0)
-low c = c.shared-slice-known.given c.before.args.at
+low : (c : tie.After-shared_slice_known-1) → Fits w8 (get_or c.before.args.s.now c.before.args.at 0)
+low c = c.shared_slice_known-1.given c.before.args.at
 
-high : (c : tie.After-shared-slice-known2) →
+high : (c : tie.After-shared_slice_known-2-1) →
     Fits w8 (get_or c.before.before.args.s.now (c.before.before.args.at + 1) 0)
-high c = c.shared-slice-known2.given (c.before.before.args.at + 1)
+high c = c.shared_slice_known-2-1.given (c.before.before.args.at + 1)
 
 pub word_at_spec : {M : Type 1} → statement M
 word_at_spec =

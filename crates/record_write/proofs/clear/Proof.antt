@@ -9,30 +9,30 @@ use borrow.Author.Rules.{rules}
 use Rattle.record_write.proofs.clear.Statement.{statement}
 use Rattle.record_write.proofs.clear.Tie as tie
 
-abbrev invariant-loop : tie.invariant-loop
-invariant-loop s₀ i₀ s i = (i ≤ length s) × (length s ≡ length s₀) × (s ≡ replicate i 0 ++ drop i s₀)
+abbrev invariant-loop-i : tie.invariant-loop-i
+invariant-loop-i s₀ i₀ s i = (i ≤ length s) × (length s ≡ length s₀) × (s ≡ replicate i 0 ++ drop i s₀)
 
-abbrev decreases-loop : tie.decreases-loop
-decreases-loop s₀ i₀ s i = length s - i
+abbrev decreases-loop-i : tie.decreases-loop-i
+decreases-loop-i s₀ i₀ s i = length s - i
 
-loop-holds : tie.Need-loop-init invariant-loop decreases-loop
+loop-holds : tie.Need-loop-i-init invariant-loop-i decreases-loop-i
 loop-holds c = (omega arith, refl, refl)
 
-loop-less : tie.Need-loop-smaller invariant-loop decreases-loop
+loop-less : tie.Need-loop-i-smaller invariant-loop-i decreases-loop-i
 loop-less c = simp length-set (omega arith)
 
-loop-again : tie.Need-loop-preserved invariant-loop decreases-loop
-loop-again c = let l = c.before.loop in (
+loop-again : tie.Need-loop-i-preserved invariant-loop-i decreases-loop-i
+loop-again c = let l = c.loop-i in (
   simp length-set (omega arith),
   simp length-set l.invariant.1,
-  ap (λ (r : List ℕ). set r l.i 0) l.invariant.2 ∙ fill_more l.i 0 c.before.before.args.s.now (omega arith),
+  ap (λ (r : List ℕ). set r l.i 0) l.invariant.2 ∙ fill_more l.i 0 c.args.s.now (omega arith),
 )
 
-same_length : tie.Need-same-length invariant-loop decreases-loop
-same_length c = c.before.loop.invariant.1
+same_length : tie.Need-shape_of-s invariant-loop-i decreases-loop-i
+same_length c = c.loop-i.invariant.1
 
-returns : tie.Need-returns invariant-loop decreases-loop
-returns c = let l = c.before.loop in let s = c.before.before.args.s.now in
+returns : tie.Need-returns invariant-loop-i decreases-loop-i
+returns c = let l = c.loop-i in let s = c.args.s.now in
     let e : l.i ≡ length s = omega arith in
     l.invariant.2 ∙ rw (drop_of_length-le s {i = l.i} (omega arith), append-nil, e)
 
@@ -40,8 +40,8 @@ pub clear_spec : {M : Type 1} → statement M
 clear_spec =
     tie.close
     (tie.spec
-    invariant-loop
-    decreases-loop
+    invariant-loop-i
+    decreases-loop-i
     loop-holds
     (λ c. search rules)
     (λ c. search rules)

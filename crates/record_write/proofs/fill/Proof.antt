@@ -6,8 +6,7 @@ use Rattle.record_write.proofs.fill.Tie as tie
 
 returns : tie.Need-returns
 returns c =
-    let s = c.before.before.before.before.before.before in
-    rw c.before.before.copy.ensures.1 (filled s.args.to.now s.args.part.now s.args.at s.requires)
+    rw c.copy.ensures.1 (filled c.args.to.now c.args.part.now c.args.at c.requires)
 
 pub fill_spec : {M : Type 1} → statement M
 fill_spec =

@@ -20,11 +20,7 @@ whole d r e p q o = written r (head_of d) d.id d.load e p q o
 
 returns : tie.Need-returns
 returns c =
-    let l = c.before.before in
-    let i = l.before.before.before.before.before in
-    let h = i.before.before.before.before.before in
-    let s = h.before.before.before.before.before.before.before.before in
-    whole s.args.d s.args.rec.now s.requires h.put-head.ensures i.put_id.ensures l.put-load.ensures
+    whole c.args.d c.args.rec.now c.requires c.put_head.ensures c.put_id.ensures c.put_load.ensures
 
 pub write_spec : {M : Type 1} → statement M
 write_spec =

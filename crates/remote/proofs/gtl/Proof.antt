@@ -5,10 +5,10 @@ use Rattle.device.proofs.Arms.{arms, when_eq}
 use Rattle.remote.proofs.gtl.Statement.{statement}
 use Rattle.remote.proofs.gtl.Tie as tie
 
-returns : tie.Need-returns
+returns-then-state-eq1 : tie.Need-returns-then-state-eq1
 unfolding gtl
-returns c d = when_eq _ _ c.before.if1.true (c.moved.ensures d)
+returns-then-state-eq1 c d = when_eq _ _ c.if-state-eq1.true (c.moved.ensures d)
 
 pub gtl_spec : {M : Type 1} → statement M
 unfolding gtl
-gtl_spec = tie.close (tie.spec (λ c κs. search rules) returns (λ c. search arms))
+gtl_spec = tie.close (tie.spec (λ c κs. search rules) returns-then-state-eq1 (λ c. search arms))

@@ -5,10 +5,10 @@ use Rattle.device.proofs.Arms.{arms, when_eq}
 use Rattle.remote.proofs.llo.Statement.{statement}
 use Rattle.remote.proofs.llo.Tie as tie
 
-returns-2 : tie.Need-returns-2
+returns : tie.Need-returns
 unfolding llo
-returns-2 c d = when_eq _ _ c.before.if1.false (c.moved.ensures d)
+returns c d = when_eq _ _ c.if-state-ne1.false (c.moved.ensures d)
 
 pub llo_spec : {M : Type 1} → statement M
 unfolding llo
-llo_spec = tie.close (tie.spec (λ c. search arms) (λ c κs. search rules) returns-2)
+llo_spec = tie.close (tie.spec (λ c. search arms) (λ c κs. search rules) returns)

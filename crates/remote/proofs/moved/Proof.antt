@@ -9,8 +9,7 @@ use Rattle.remote.proofs.moved.Tie as tie
 
 returns : tie.Need-returns
 returns c d =
-    let m = c.before in
-    c.remoting.ensures d ∙ ap (λ (x : ℕ). remoting (with d m.before.args.state) x) m.moves.ensures
+    c.remoting.ensures d ∙ ap (λ (x : ℕ). remoting (with d c.args.state) x) c.moves-next.ensures
 
 pub moved_spec : {M : Type 1} → statement M
 moved_spec = tie.close (tie.spec (λ c κs. search rules) (λ c κs. search rules) returns)

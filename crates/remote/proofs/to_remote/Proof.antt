@@ -5,10 +5,10 @@ use Rattle.device.proofs.Arms.{arms, when_eq}
 use Rattle.remote.proofs.to_remote.Statement.{statement}
 use Rattle.remote.proofs.to_remote.Tie as tie
 
-returns : tie.Need-returns
+returns-then-state-eq1 : tie.Need-returns-then-state-eq1
 unfolding to_remote
-returns c d = when_eq _ _ c.before.if1.true (c.moved.ensures d)
+returns-then-state-eq1 c d = when_eq _ _ c.if-state-eq1.true (c.moved.ensures d)
 
 pub to_remote_spec : {M : Type 1} → statement M
 unfolding to_remote
-to_remote_spec = tie.close (tie.spec (λ c κs. search rules) returns (λ c. search arms))
+to_remote_spec = tie.close (tie.spec (λ c κs. search rules) returns-then-state-eq1 (λ c. search arms))

@@ -13,7 +13,7 @@ continues_spec =
     tie.close
     (tie.spec
     (λ c. search rules)
-    (λ c κs. (search rules, omega (arith, (c.before.before.shared-slice-known2.given 12).fits, c.if2.true)))
+    (λ c κs. (search rules, omega (arith, (c.shared_slice_known-then-state-eq-SENDING_DATA-1.given 12).fits, c.if-state-rec.true)))
     (λ c. search arms)
     (λ c κs. search rules)
     (λ c. search (arms, c.stops.ensures))
@@ -21,4 +21,4 @@ continues_spec =
     (λ c κs. search rules)
     (λ c. search arms)
     (λ c κs. search rules)
-    (λ c. search (arms, c.stops2.ensures)))
+    (λ c. search (arms, c.stops-2.ensures)))

@@ -16,28 +16,24 @@ use Rattle.reply.proofs.data_frame.Statement.{statement}
 use Rattle.reply.proofs.data_frame.Tie as tie
 
 -- the last byte, asked for as END
+returns-then-state-rec : tie.Need-returns-then-state-rec
+unfolding data_frame device_of messages first_in first_of
+returns-then-state-rec c =
+    let d = device_of c.args.rec.now in
+    let n = c.args.state.sent in
+    let t : (eqb (n + 1) d.loadlength && eqb d.choice end_last) ≡ true = c.if-state-rec.true in
+    rw (← c.load_at-byte.ensures)
+    (when _ _ refl t (c.marked.ensures d (message end c.load_at-byte.result 0) (omega arith) refl))
+
+-- any other
 returns : tie.Need-returns
 unfolding data_frame device_of messages first_in first_of
 returns c =
-    let b = c.before.before.before.before.before in
-    let s = b.before.before in
-    let d = device_of s.args.rec.now in
-    let n = s.args.state.sent in
-    let t : (eqb (n + 1) d.loadlength && eqb d.choice end_last) ≡ true = c.before.if1.true in
-    rw (← b.load_at.ensures)
-    (when _ _ refl t (c.marked.ensures d (message end b.load_at.result 0) (omega arith) refl))
-
--- any other
-returns-2 : tie.Need-returns-2
-unfolding data_frame device_of messages first_in first_of
-returns-2 c =
-    let b = c.before.before.before.before.before in
-    let s = b.before.before in
-    let d = device_of s.args.rec.now in
-    let n = s.args.state.sent in
-    let t : (eqb (n + 1) d.loadlength && eqb d.choice end_last) ≡ false = c.before.if1.false in
-    rw (← b.load_at.ensures)
-    (unless _ _ refl t (c.marked2.ensures d (message dab b.load_at.result 0) (omega arith) refl))
+    let d = device_of c.args.rec.now in
+    let n = c.args.state.sent in
+    let t : (eqb (n + 1) d.loadlength && eqb d.choice end_last) ≡ false = c.if-state-rec.false in
+    rw (← c.load_at-byte.ensures)
+    (unless _ _ refl t (c.marked-2.ensures d (message dab c.load_at-byte.result 0) (omega arith) refl))
 
 pub data_frame_spec : {M : Type 1} → statement M
 data_frame_spec =
@@ -50,6 +46,6 @@ data_frame_spec =
     (λ c. search rules)
     (λ c. search rules)
     (λ c κs. search rules)
-    returns
+    returns-then-state-rec
     (λ c κs. search rules)
-    returns-2)
+    returns)

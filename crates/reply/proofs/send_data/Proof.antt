@@ -9,10 +9,9 @@ use Rattle.reply.proofs.send_data.Tie as tie
 returns : tie.Need-returns
 unfolding sends_data
 returns c =
-    let f = c.before.before.before in
-    let d = device_of f.before.before.args.rec.now in
-    rw (← f.data_frame.ensures)
-    (sends_on f.data_frame.result (c.sends.ensures d) (c.before.counting.ensures d))
+    let d = device_of c.args.rec.now in
+    rw (← c.data_frame-frame.ensures)
+    (sends_on c.data_frame-frame.result (c.sends.ensures d) (c.counting.ensures d))
 
 pub send_data_spec : {M : Type 1} → statement M
 send_data_spec =

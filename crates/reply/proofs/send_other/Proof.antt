@@ -13,11 +13,9 @@ use Rattle.reply.proofs.send_other.Tie as tie
 returns : tie.Need-returns
 unfolding sends_other messages first_in first_of
 returns c =
-    let m = c.before.before.before in
-    let b = m.before in
-    let d = device_of b.before.before.args.rec.now in
-    rw (← b.other_byte.ensures, ← m.marked.ensures d (message dab b.other_byte.result 0) (omega arith) refl)
-    (sends_on m.marked.result (c.sends.ensures d) (c.before.counting.ensures d))
+    let d = device_of c.args.rec.now in
+    rw (← c.other_byte-byte.ensures, ← c.marked-frame.ensures d (message dab c.other_byte-byte.result 0) (omega arith) refl)
+    (sends_on c.marked-frame.result (c.sends.ensures d) (c.counting.ensures d))
 
 pub send_other_spec : {M : Type 1} → statement M
 send_other_spec =

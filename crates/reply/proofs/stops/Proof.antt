@@ -10,4 +10,4 @@ stops_spec =
     (tie.spec
     (λ c κs. search rules)
     (λ c κs. search rules)
-    (λ c. search (arms, c.sends.ensures, c.before.talking.ensures)))
+    (λ c. search (arms, c.sends.ensures, c.talking.ensures)))

@@ -10,6 +10,6 @@ abilities_allowed_spec =
     (tie.spec
     (λ c κs. search rules)
     (λ c κs. search rules)
-    (λ c d e. passed (c.before.before.service-with-status.ensures d e) c.before.if1.true
-    (c.unaddress-with-both.ensures d e))
-    (λ c d e. failed _ (c.before.service-with-status.ensures d e) c.if1.false))
+    (λ c d e. passed (c.service_with_status.ensures d e) c.if-service_with_status.true
+    (c.unaddress_with_both.ensures d e))
+    (λ c d e. failed _ (c.service_with_status.ensures d e) c.if-service_with_status.false))

@@ -8,10 +8,10 @@ use Rattle.sound.proofs.able.Statement.{statement}
 use Rattle.sound.proofs.able.Tie as tie
 
 -- the abilities judged are the record's
-allowed : (c : tie.After-abilities-allowed) →
-    c.abilities-allowed.result ≡ abilities_allowed (device_of c.before.before.before.args.rec.now)
+allowed : (c : tie.After-abilities_allowed) →
+    c.abilities_allowed.result ≡ abilities_allowed (device_of c.args.rec.now)
 unfolding device_of
-allowed c = c.abilities-allowed.ensures (device_of c.before.before.before.args.rec.now) refl
+allowed c = c.abilities_allowed.ensures (device_of c.args.rec.now) refl
 
 pub able_spec : {M : Type 1} → statement M
 able_spec =

@@ -11,14 +11,11 @@ use Rattle.sound.proofs.item_allowed.Tie as tie
 returns : tie.Need-returns
 unfolding allowed power_on
 returns c =
-    let a = c.before.before in
-    let z = a.before.before in
-    let s = z.before.before.before.before.before.before in
-    let item = s.args.item.now in
+    let item = c.args.item.now in
     rw (
-      c.variant-allowed.ensures,
-      a.abilities-allowed.ensures (power_on item) refl,
-      z.zero-past-length.ensures,
+      c.variant_allowed.ensures,
+      c.abilities_allowed.ensures (power_on item) refl,
+      c.zero_past_length.ensures,
       take_bytes 8 4 item (search rules),
     )
     (at_power_on item)

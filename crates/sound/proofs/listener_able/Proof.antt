@@ -13,7 +13,7 @@ listener_able_spec =
     (tie.spec
     (λ c. search rules)
     (λ c κs. search rules)
-    (λ c. let i = c.before in let b = i.before.before.before.args.rec.now in
-    rw (eq-eqb (get_or b 4 0) 1 i.if1.true) c.has.ensures)
-    (λ c. let b = c.before.before.before.args.rec.now in
-    rw (ne_eqb (get_or b 4 0) 1 c.if1.false)))
+    (λ c. let b = c.args.rec.now in
+    rw (eq-eqb (get_or b 4 0) 1 c.if-rec-eq1.true) c.has.ensures)
+    (λ c. let b = c.args.rec.now in
+    rw (ne_eqb (get_or b 4 0) 1 c.if-rec-eq1.false)))

@@ -15,10 +15,8 @@ poll_right_spec =
     (λ c κs. search rules)
     (λ c. search rules)
     (λ c. search rules)
-    (λ c. let i = c.before in let h = i.before in
-    able_right (device_of c.before.before.before.before.before.args.rec.now)
-    (sym h.has-further.ensures ∙ i.if1.true))
+    (λ c. able_right (device_of c.args.rec.now)
+    (sym c.has_further.ensures ∙ c.if-has_further.true))
     (λ c. search rules)
-    (λ c. let i = c.before in let h = i.before in
-    unable_right (device_of c.before.before.before.before.before.args.rec.now)
-    (sym h.has-further.ensures ∙ i.if1.false)))
+    (λ c. unable_right (device_of c.args.rec.now)
+    (sym c.has_further.ensures ∙ c.if-has_further.false)))

@@ -13,7 +13,7 @@ service_able_spec =
     (tie.spec
     (λ c. search rules)
     (λ c κs. search rules)
-    (λ c. let i = c.before in let b = i.before.before.before.args.rec.now in
-    rw (lt-ltb 0 (get_or b 6 0) i.if1.true) c.has.ensures)
-    (λ c. let b = c.before.before.before.args.rec.now in
-    rw (le-ltb 0 (get_or b 6 0) c.if1.false)))
+    (λ c. let b = c.args.rec.now in
+    rw (lt-ltb 0 (get_or b 6 0) c.if-rec-gt-NO_SERVICE.true) c.has.ensures)
+    (λ c. let b = c.args.rec.now in
+    rw (le-ltb 0 (get_or b 6 0) c.if-rec-gt-NO_SERVICE.false)))

@@ -8,5 +8,5 @@ pub unaddress_with_both_spec : {M : Type 1} → statement M
 unaddress_with_both_spec =
     tie.close
     (tie.spec
-    (λ c d e. rw (e, ne_eqb (bit_and c.before.args.abilities 64) 0 c.if1.true))
-    (λ c d e. rw (e, eq-eqb (bit_and c.before.args.abilities 64) 0 c.if1.false)))
+    (λ c d e. rw (e, ne_eqb (bit_and c.args.abilities 64) 0 c.if-abilities-ne0.true))
+    (λ c d e. rw (e, eq-eqb (bit_and c.args.abilities 64) 0 c.if-abilities-ne0.false)))

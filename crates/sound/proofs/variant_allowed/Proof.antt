@@ -14,18 +14,16 @@ twice : (b : Bool) → not (not b) ≡ b
 twice true = refl
 twice false = refl
 
+returns-then-item-ne0 : tie.Need-returns-then-item-ne0
+unfolding power_on
+returns-then-item-ne0 c =
+    let item = c.args.item.now in
+    rw (ne_eqb (bit_and (get_or item 12 0) 2) 0 c.if-item-ne0.true, twice (eqb (bit_and (get_or item 0 0) 32) 0))
+
 returns : tie.Need-returns
 unfolding power_on
 returns c =
-    let i = c.before.before in
-    let item = i.before.before.args.item.now in
-    rw (ne_eqb (bit_and (get_or item 12 0) 2) 0 i.if1.true, twice (eqb (bit_and (get_or item 0 0) 32) 0))
-
-returns-2 : tie.Need-returns-2
-unfolding power_on
-returns-2 c =
-    let i = c.before in
-    let item = i.before.before.args.item.now in rw (eq-eqb (bit_and (get_or item 12 0) 2) 0 i.if1.false)
+    let item = c.args.item.now in rw (eq-eqb (bit_and (get_or item 12 0) 2) 0 c.if-item-ne0.false)
 
 pub variant_allowed_spec : {M : Type 1} → statement M
 variant_allowed_spec =
@@ -34,6 +32,6 @@ variant_allowed_spec =
     (λ c. search rules)
     (λ c. search rules)
     (λ c. search rules)
-    returns
+    returns-then-item-ne0
     (λ c. search rules)
-    returns-2)
+    returns)

@@ -14,4 +14,4 @@ data_right_spec =
     (λ c. search rules)
     (λ c. search rules)
     (λ c κs. search rules)
-    (λ c. rw (c.word_at.ensures, c.before.before.before.has.ensures)))
+    (λ c. rw (c.word_at.ensures, c.has.ensures)))

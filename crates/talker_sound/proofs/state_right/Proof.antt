@@ -26,16 +26,16 @@ state_right_spec =
     (λ c. search rules)
     (λ c κs. search rules)
     (λ c. search rules)
-    (λ c. let m = c.before in rw c.quiet.ensures
-    (idle_right (device_of m.before.before.before.args.rec.now) m.match.keys1))
-    (λ c. let m = c.before.before in rw (c.before.talks.ensures, c.quiet2.ensures)
-    (addressed_right (device_of m.before.before.before.args.rec.now) m.match.keys2))
-    (λ c. let m = c.before.before.before in rw c.before.before.has.ensures
-    (data_right (device_of m.before.before.before.args.rec.now) m.match.keys3))
-    (λ c. let m = c.before.before in rw c.before.has2.ensures
-    (status_right (device_of m.before.before.before.args.rec.now) m.match.keys4))
-    (λ c. let m = c.before.before.before.before in rw c.before.before.before.has3.ensures
-    (id_right (device_of m.before.before.before.args.rec.now) m.match.keys5))
-    (λ c. let m = c.before.before in rw c.before.has4.ensures
-    (accessory_right (device_of m.before.before.before.args.rec.now) m.match.keys6))
-    (λ c. past_right (device_of c.before.before.before.args.rec.now) (search rules)))
+    (λ c. rw c.quiet.ensures
+    (idle_right (device_of c.args.rec.now) c.in-0.is))
+    (λ c. rw (c.talks.ensures, c.quiet-in-1.ensures)
+    (addressed_right (device_of c.args.rec.now) c.in-1.is))
+    (λ c. rw c.has.ensures
+    (data_right (device_of c.args.rec.now) c.in-2.is))
+    (λ c. rw c.has-in-3.ensures
+    (status_right (device_of c.args.rec.now) c.in-3.is))
+    (λ c. rw c.has-in-4.ensures
+    (id_right (device_of c.args.rec.now) c.in-4.is))
+    (λ c. rw c.has-in-5.ensures
+    (accessory_right (device_of c.args.rec.now) c.in-5.is))
+    (λ c. past_right (device_of c.args.rec.now) (search rules)))

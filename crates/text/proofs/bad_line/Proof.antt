@@ -6,35 +6,25 @@ use Rattle.text.proofs.Numbers.{five_digits}
 use Rattle.text.proofs.bad_line.Statement.{statement}
 use Rattle.text.proofs.bad_line.Tie as tie
 
-decimal-requires : tie.Need-decimal-requires
-decimal-requires c κs =
-    let s = c.before.before.before.before.before.before.before in
-    omega (arith, five_digits s.args.number s.requires.0, c.before.before.before.put.ensures.behind)
+decimal-digits-requires : tie.Need-decimal-digits-requires
+decimal-digits-requires c κs =
+    omega (arith, five_digits c.args.number c.requires.0, c.put-word.ensures.behind)
 
-put-requires-2 : tie.Need-put-requires-2
-put-requires-2 c κs =
-    let d = c.before.before.before.before in
-    let p = d.before.before.before.before in
-    let s = p.before.before.before.before in
-    omega (arith, five_digits s.args.number s.requires.0, p.put.ensures.behind, d.decimal.ensures.behind)
+put-requires : tie.Need-put-requires
+put-requires c κs =
+    omega (arith, five_digits c.args.number c.requires.0, c.put-word.ensures.behind, c.decimal-digits.ensures.behind)
 
 returns : tie.Need-returns
 returns c =
-    let e = c.before.before in
-    let d = e.before.before.before.before.before in
-    let p = d.before.before.before.before in
-    let s = p.before.before.before.before in
-    next (omega arith) p.put.ensures
-    (next (omega (arith, s.requires.1, p.put.ensures.behind, p.put.auto.0)) d.decimal.ensures e.put2.ensures)
+    next (omega arith) c.put-word.ensures
+    (next (omega (arith, c.requires.1, c.put-word.ensures.behind, c.put-word.auto.out)) c.decimal-digits.ensures c.put.ensures)
 
 pub bad_line_spec : {M : Type 1} → statement M
 bad_line_spec =
     tie.close
     (tie.spec
-    (λ c. search rules)
     (λ c κs. search rules)
-    decimal-requires
-    (λ c. search rules)
-    put-requires-2
+    decimal-digits-requires
+    put-requires
     (λ c. search rules)
     returns)

@@ -6,35 +6,26 @@ use Rattle.text.proofs.Numbers.{two_digits}
 use Rattle.text.proofs.hand_line.Statement.{statement}
 use Rattle.text.proofs.hand_line.Tie as tie
 
-decimal-requires : tie.Need-decimal-requires
-decimal-requires c κs =
-    let s = c.before.before.before.before.before.before.before.before.before.before in
-    omega (arith, two_digits s.args.device s.requires.0, s.requires.1, c.before.before.before.put.ensures.behind)
+decimal-fields-requires : tie.Need-decimal-fields-requires
+decimal-fields-requires c κs =
+    omega (arith, two_digits c.args.device c.requires.0, c.requires.1, c.put-number.ensures.behind)
 
-put-requires-2 : tie.Need-put-requires-2
-put-requires-2 c κs =
-    let d = c.before.before.before.before in
-    let p = d.before.before.before.before in
-    let s = p.before.before.before.before.before.before.before in
+put-requires : tie.Need-put-requires
+put-requires c κs =
     omega (
       arith,
-      two_digits s.args.device s.requires.0,
-      s.requires.1,
-      p.put.ensures.behind,
-      d.decimal.ensures.behind,
+      two_digits c.args.device c.requires.0,
+      c.requires.1,
+      c.put-number.ensures.behind,
+      c.decimal-fields.ensures.behind,
     )
 
 returns : tie.Need-returns
 returns c =
-    let e = c.before.before in
-    let d = e.before.before.before.before.before in
-    let p = d.before.before.before.before in
-    let h = p.before.before.before in
-    let s = h.before.before.before.before in
-    rw (← h.before.before.hex-char.ensures, ← h.before.hex-char2.ensures, ← h.hex-char3.ensures)
-    (next (omega (arith, s.requires.1)) p.put.ensures
-    (next (omega (arith, s.requires.1, p.put.ensures.behind, p.put.auto.0)) d.decimal.ensures
-    e.put2.ensures))
+    rw (← c.hex_char.ensures, ← c.hex_char-2.ensures, ← c.hex_char-3.ensures)
+    (next (omega (arith, c.requires.1)) c.put-number.ensures
+    (next (omega (arith, c.requires.1, c.put-number.ensures.behind, c.put-number.auto.out)) c.decimal-fields.ensures
+    c.put.ensures))
 
 pub hand_line_spec : {M : Type 1} → statement M
 hand_line_spec =
@@ -43,10 +34,9 @@ hand_line_spec =
     (λ c κs. search rules)
     (λ c κs. search rules)
     (λ c κs. search rules)
-    (λ c. search rules)
     (λ c κs. search rules)
-    decimal-requires
+    decimal-fields-requires
     (λ c. search rules)
-    put-requires-2
+    put-requires
     (λ c. search rules)
     returns)

@@ -11,5 +11,5 @@ hex_char_spec =
     (λ c. search rules)
     (λ c. search rules)
     (λ c. search rules)
-    (λ c. rw (lt-ltb _ _ c.if1.true))
-    (λ c. rw (le-ltb _ _ c.if1.false)))
+    (λ c. rw (lt-ltb _ _ c.if-d-lt10.true))
+    (λ c. rw (le-ltb _ _ c.if-d-lt10.false)))

@@ -7,10 +7,9 @@ use Rattle.text.proofs.put.Tie as tie
 
 returns : tie.Need-returns
 returns c =
-    let s = c.before.before.before.before.before.before in
     record {
-      is = rw c.before.before.copy.ensures.1 (filled s.args.out.now s.args.text.now s.args.at
-          s.requires);
+      is = rw c.copy.ensures.1 (filled c.args.out.now c.args.text.now c.args.at
+          c.requires);
       behind = refl;
     }
 

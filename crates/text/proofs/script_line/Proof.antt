@@ -5,10 +5,7 @@ use Rattle.text.proofs.script_line.Tie as tie
 
 returns : tie.Need-returns
 returns c =
-    let h3 = c.before.before.before.before.before in
-    let h2 = h3.before in
-    let h1 = h2.before in
-    rw (h1.hex-char.ensures, h2.hex-char2.ensures, h3.hex-char3.ensures) at c.before.before.put.ensures
+    rw (c.hex_char.ensures, c.hex_char-2.ensures, c.hex_char-3.ensures) at c.put.ensures
 
 pub script_line_spec : {M : Type 1} → statement M
 script_line_spec =

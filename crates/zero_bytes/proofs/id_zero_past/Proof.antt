@@ -15,5 +15,4 @@ id_zero_past_spec =
     (λ c. search rules)
     (λ c. search rules)
     (λ c κs. search rules)
-    (λ c. let s = c.before.before.before.before in
-    rw (c.zero-past-length.ensures, take_bytes 8 24 s.args.rec.now (search rules))))
+    (λ c. rw (c.zero_past_length.ensures, take_bytes 8 24 c.args.rec.now (search rules))))

@@ -8,6 +8,6 @@ zero_past_length_spec =
     tie.close
     (tie.spec
     (λ c κs. search rules)
-    (λ c. rw c.before.if1.true c.zeros_from.ensures)
+    (λ c. rw c.if-length-eq0.true c.zeros_from.ensures)
     (λ c κs. search rules)
-    (λ c. c.zeros-from2.ensures))
+    (λ c. c.zeros_from-2.ensures))

@@ -10,31 +10,29 @@ use Rattle.record.proofs.Zeros.{turned, none_left}
 use Rattle.zero_bytes.proofs.zeros_from.Statement.{statement}
 use Rattle.zero_bytes.proofs.zeros_from.Tie as tie
 
-abbrev invariant-loop : tie.invariant-loop
-invariant-loop s from zero₀ i₀ zero i = (zero && zeros (drop i s)) ≡ zeros (drop from s)
+abbrev invariant-loop-i : tie.invariant-loop-i
+invariant-loop-i s from zero₀ i₀ zero i = (zero && zeros (drop i s)) ≡ zeros (drop from s)
 
-abbrev decreases-loop : tie.decreases-loop
-decreases-loop s from zero₀ i₀ zero i = length s - i
+abbrev decreases-loop-i : tie.decreases-loop-i
+decreases-loop-i s from zero₀ i₀ zero i = length s - i
 
-loop-holds : tie.Need-loop-init invariant-loop decreases-loop
+loop-holds : tie.Need-loop-i-init invariant-loop-i decreases-loop-i
 loop-holds c = refl
 
-loop-again : tie.Need-loop-preserved invariant-loop decreases-loop
+loop-again : tie.Need-loop-i-preserved invariant-loop-i decreases-loop-i
 loop-again c =
-    let b = c.before.before in
-    turned b.before.args.s.now b.loop.i b.loop.zero c.before.loop-test.true ∙ b.loop.invariant
+    turned c.args.s.now c.loop-i.i c.loop-i.zero c.loop-i-test.true ∙ c.loop-i.invariant
 
-returns : tie.Need-returns invariant-loop decreases-loop
+returns : tie.Need-returns invariant-loop-i decreases-loop-i
 returns c =
-    let b = c.before in
-    sym (none_left b.before.args.s.now b.loop.i b.loop.zero c.loop-test.false) ∙ b.loop.invariant
+    sym (none_left c.args.s.now c.loop-i.i c.loop-i.zero c.loop-i-test.false) ∙ c.loop-i.invariant
 
 pub zeros_from_spec : {M : Type 1} → statement M
 zeros_from_spec =
     tie.close
     (tie.spec
-    invariant-loop
-    decreases-loop
+    invariant-loop-i
+    decreases-loop-i
     loop-holds
     (λ c. search rules)
     (λ c. search rules)

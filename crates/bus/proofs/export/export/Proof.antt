@@ -13,78 +13,61 @@ use Rattle.bus.proofs.Loops.{Writing, starts, stored, kept, data_at, no_pair, no
 use Rattle.bus.proofs.export.export.Statement.{statement}
 use Rattle.bus.proofs.export.export.Tie as tie
 
-abbrev invariant-loop : tie.invariant-loop
-invariant-loop frames row₀ place need i₀ row i = Writing (exported frames) row₀ i row
+abbrev invariant-loop-i : tie.invariant-loop-i
+invariant-loop-i frames row₀ place need i₀ row i = Writing (exported frames) row₀ i row
 
-abbrev decreases-loop : tie.decreases-loop
-decreases-loop frames row₀ place need i₀ row i = length frames / 2 - i
+abbrev decreases-loop-i : tie.decreases-loop-i
+decreases-loop-i frames row₀ place need i₀ row i = length frames / 2 - i
 
-returns : tie.Need-returns invariant-loop decreases-loop
-returns c =
-    let b = c.before in
-    let s = b.before.before.before in
-    no_pair s.args.frames.now s.args.row.now b.frame-without.ensures c.if1.true
+returns-then-place-frames : tie.Need-returns-then-place-frames invariant-loop-i decreases-loop-i
+returns-then-place-frames c =
+    no_pair c.args.frames.now c.args.row.now c.frame_without-place.ensures c.if-place-frames.true
 
-returns-2 : tie.Need-returns-2 invariant-loop decreases-loop
-returns-2 c =
-    let i = c.before in
-    let b = i.before in
-    let s = b.before.before.before in
-    no_bytes s.args.frames.now s.args.row.now b.frame-without.ensures i.if1.false c.if2.true
+returns-then-row-need : tie.Need-returns-then-row-need invariant-loop-i decreases-loop-i
+returns-then-row-need c =
+    no_bytes c.args.frames.now c.args.row.now c.frame_without-place.ensures c.if-place-frames.false c.if-row-need.true
 
-loop-holds : tie.Need-loop-init invariant-loop decreases-loop
+loop-holds : tie.Need-loop-i-init invariant-loop-i decreases-loop-i
 loop-holds c =
-    let s = c.before.before.before.before.before in
-    starts (omega (arith, c.if2.false, lengths.of_export s.args.frames.now))
+    starts (omega (arith, c.if-row-need.false, lengths.of_export c.args.frames.now))
 
-slice-write-row : tie.Need-slice-write-row invariant-loop decreases-loop
-slice-write-row c =
-    let t = c.before.before in
-    let l = t.before in
-    let n = lengths.of_export l.before.before.before.before.before.before.args.frames.now in
-    omega (arith, kept l.loop.invariant, l.loop.invariant.fits, n, t.loop-test.true)
+bounds-row-i : tie.Need-bounds-row-i invariant-loop-i decreases-loop-i
+bounds-row-i c =
+    let n = lengths.of_export c.args.frames.now in
+    omega (arith, kept c.loop-i.invariant, c.loop-i.invariant.fits, n, c.loop-i-test.true)
 
-loop-again : tie.Need-loop-preserved invariant-loop decreases-loop
+loop-again : tie.Need-loop-i-preserved invariant-loop-i decreases-loop-i
 loop-again c =
-    let t = c.before.before in
-    let l = t.before in
-    let i = l.before.before in
-    let b = i.before in
-    let s = b.before.before.before in
-    stored l.loop.invariant (omega (arith, t.loop-test.true, lengths.of_export s.args.frames.now))
-    (data_at s.args.frames.now s.args.row.now b.frame-without.ensures i.if1.false l.loop.i
-    t.loop-test.true
-    ∙ sym c.data-bits.ensures)
+    stored c.loop-i.invariant (omega (arith, c.loop-i-test.true, lengths.of_export c.args.frames.now))
+    (data_at c.args.frames.now c.args.row.now c.frame_without-place.ensures c.if-place-frames.false c.loop-i.i
+    c.loop-i-test.true
+    ∙ sym c.data_bits.ensures)
 
-same_length : tie.Need-same-length invariant-loop decreases-loop
-same_length c = kept c.before.loop.invariant
+same_length : tie.Need-shape_of-row invariant-loop-i decreases-loop-i
+same_length c = kept c.loop-i.invariant
 
-returns-3 : tie.Need-returns-3 invariant-loop decreases-loop
-returns-3 c =
-    let l = c.before in
-    let i = l.before.before in
-    let b = i.before in
-    let s = b.before.before.before in
-    exports s.args.frames.now s.args.row.now b.frame-without.ensures i.if1.false l.loop.invariant
-    (omega (arith, c.loop-test.false, lengths.of_export s.args.frames.now))
+returns : tie.Need-returns invariant-loop-i decreases-loop-i
+returns c =
+    exports c.args.frames.now c.args.row.now c.frame_without-place.ensures c.if-place-frames.false c.loop-i.invariant
+    (omega (arith, c.loop-i-test.false, lengths.of_export c.args.frames.now))
 
 pub export_spec : {M : Type 1} → statement M
 export_spec =
     tie.close
     (tie.spec
-    invariant-loop
-    decreases-loop
+    invariant-loop-i
+    decreases-loop-i
     (λ c κs. search rules)
-    returns
-    returns-2
+    returns-then-place-frames
+    returns-then-row-need
     loop-holds
     (λ c. search rules)
     (λ c. search rules)
     (λ c. search rules)
     (λ c κs. search rules)
-    slice-write-row
+    bounds-row-i
     (λ c. search rules)
     (λ c. search rules)
     loop-again
     same_length
-    returns-3)
+    returns)

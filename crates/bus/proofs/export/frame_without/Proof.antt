@@ -14,114 +14,95 @@ use Rattle.bus.proofs.Loops.{frame_stops, frame_alone, frame_breaks, frame_goes,
 use Rattle.bus.proofs.export.frame_without.Statement.{statement}
 use Rattle.bus.proofs.export.frame_without.Tie as tie
 
-abbrev invariant-loop : tie.invariant-loop
-invariant-loop frames pairs k₀ k =
+abbrev invariant-loop-k : tie.invariant-loop-k
+invariant-loop-k frames pairs k₀ k =
     (k ≤ length frames / 2) × (frame_without frames ≡ 2 * k + frame_without (drop (2 * k) frames))
 
-abbrev decreases-loop : tie.decreases-loop
-decreases-loop frames pairs k₀ k = length frames / 2 - k
+abbrev decreases-loop-k : tie.decreases-loop-k
+decreases-loop-k frames pairs k₀ k = length frames / 2 - k
 
-loop-holds : tie.Need-loop-init invariant-loop decreases-loop
+loop-holds : tie.Need-loop-k-init invariant-loop-k decreases-loop-k
 loop-holds c = (omega arith, sym (zero-add _))
 
-returns : tie.Need-returns invariant-loop decreases-loop
-returns c =
-    let m = c.before in
-    let t = m.before.before in
-    let l = t.before in
+returns-then-not-has_byte : tie.Need-returns-then-not-has_byte invariant-loop-k decreases-loop-k
+returns-then-not-has_byte c =
     sym
-    (frame_stops l.before.before.args.frames.now (2 * l.loop.k) l.loop.invariant.1
-    (omega (arith, t.loop-test.true))
-    (sym m.has-byte.ensures ∙ not-true m.has-byte.result c.if1.true))
+    (frame_stops c.args.frames.now (2 * c.loop-k.k) c.loop-k.invariant.1
+    (omega (arith, c.loop-k-test.true))
+    (sym c.has_byte.ensures ∙ not-true c.has_byte.result c.if-not-has_byte.true-raw))
 
 -- the first frame of the loop's pair has a byte
-has : (c : tie.Else1 invariant-loop decreases-loop) →
-    has_byte (get_or c.before.before.before.before.before.before.args.frames.now
-    (2 * c.before.before.before.before.loop.k) 0) ≡ true
-has c = let m = c.before in sym m.has-byte.ensures ∙ not-false m.has-byte.result c.if1.false
+has : (c : tie.Else-not-has_byte invariant-loop-k decreases-loop-k) →
+    has_byte (get_or c.args.frames.now
+    (2 * c.loop-k.k) 0) ≡ true
+has c = sym c.has_byte.ensures ∙ not-false c.has_byte.result c.if-not-has_byte.false-raw
 
-returns-2 : tie.Need-returns-2 invariant-loop decreases-loop
-returns-2 c =
-    let e = c.before.before in
-    let t = e.before.before.before in
-    let l = t.before in
+returns-then-frames-k-ne-RFC : tie.Need-returns-then-frames-k-ne-RFC invariant-loop-k decreases-loop-k
+returns-then-frames-k-ne-RFC c =
     sym
-    (frame_breaks l.before.before.args.frames.now (2 * l.loop.k) l.loop.invariant.1
-    (omega (arith, t.loop-test.true)) (has e) (omega (arith, t.loop-test.true)) c.if2.true)
+    (frame_breaks c.args.frames.now (2 * c.loop-k.k) c.loop-k.invariant.1
+    (omega (arith, c.loop-k-test.true)) (has c.before.before) (omega (arith, c.loop-k-test.true)) c.if-frames-k-ne-RFC.true)
 
-loop-again : tie.Need-loop-preserved invariant-loop decreases-loop
+loop-again : tie.Need-loop-k-preserved invariant-loop-k decreases-loop-k
 loop-again c =
-    let e = c.before.before in
-    let t = e.before.before.before in
-    let l = t.before in
-    let k = l.loop.k in
+    let k = c.loop-k.k in
     let n : 2 * k + 2 ≡ 2 * (k + 1) = omega arith in (
-      omega (arith, t.loop-test.true),
+      omega (arith, c.loop-k-test.true),
       rw (← n)
-          (frame_goes l.before.before.args.frames.now (2 * k) l.loop.invariant.1
-          (omega (arith, t.loop-test.true)) (has e) (omega (arith, t.loop-test.true)) c.if2.false),
+          (frame_goes c.args.frames.now (2 * k) c.loop-k.invariant.1
+          (omega (arith, c.loop-k-test.true)) (has c.before.before) (omega (arith, c.loop-k-test.true)) c.if-frames-k-ne-RFC.false),
     )
 
-returns-3 : tie.Need-returns-3 invariant-loop decreases-loop
-returns-3 c =
-    let t = c.before in
-    let l = t.before in
+returns-then-frames-eq0 : tie.Need-returns-then-frames-eq0 invariant-loop-k decreases-loop-k
+returns-then-frames-eq0 c =
     sym
-    (frame_ends l.before.before.args.frames.now (2 * l.loop.k) l.loop.invariant.1
-    (omega (arith, t.loop-test.false, c.if3.true)))
+    (frame_ends c.args.frames.now (2 * c.loop-k.k) c.loop-k.invariant.1
+    (omega (arith, c.loop-k-test.false, c.if-frames-eq0.true)))
 
-returns-4 : tie.Need-returns-4 invariant-loop decreases-loop
-returns-4 c =
-    let m = c.before in
-    let i = m.before.before in
-    let t = i.before in
-    let l = t.before in
+returns-then-not-has_byte-2 : tie.Need-returns-then-not-has_byte-2 invariant-loop-k decreases-loop-k
+returns-then-not-has_byte-2 c =
     sym
-    (frame_stops l.before.before.args.frames.now (2 * l.loop.k) l.loop.invariant.1
-    (omega (arith, l.loop.invariant.0, i.if3.false))
-    (sym m.has-byte2.ensures ∙ not-true m.has-byte2.result c.if4.true))
+    (frame_stops c.args.frames.now (2 * c.loop-k.k) c.loop-k.invariant.1
+    (omega (arith, c.loop-k.invariant.0, c.if-frames-eq0.false))
+    (sym c.has_byte-2.ensures ∙ not-true c.has_byte-2.result c.if-not-has_byte-2.true-raw))
 
-returns-5 : tie.Need-returns-5 invariant-loop decreases-loop
-returns-5 c =
-    let m = c.before in
-    let i = m.before.before in
-    let t = i.before in
-    let l = t.before in
+returns : tie.Need-returns invariant-loop-k decreases-loop-k
+returns c =
     sym
-    (frame_alone l.before.before.args.frames.now (2 * l.loop.k) l.loop.invariant.1
-    (omega (arith, l.loop.invariant.0, i.if3.false))
-    (sym m.has-byte2.ensures ∙ not-false m.has-byte2.result c.if4.false)
-    (omega (arith, t.loop-test.false)))
+    (frame_alone c.args.frames.now (2 * c.loop-k.k) c.loop-k.invariant.1
+    (omega (arith, c.loop-k.invariant.0, c.if-frames-eq0.false))
+    (sym c.has_byte-2.ensures ∙ not-false c.has_byte-2.result c.if-not-has_byte-2.false-raw)
+    (omega (arith, c.loop-k-test.false)))
 
 pub frame_without_spec : {M : Type 1} → statement M
 frame_without_spec =
     tie.close
     (tie.spec
-    invariant-loop
-    decreases-loop
+    invariant-loop-k
+    decreases-loop-k
     loop-holds
     (λ c. search rules)
     (λ c. search rules)
     (λ c. search rules)
     (λ c κs. search rules)
     (λ c. search rules)
-    returns
+    returns-then-not-has_byte
     (λ c. search rules)
     (λ c. search rules)
     (λ c. search rules)
     (λ c. search rules)
     (λ c. search rules)
     (λ c. search rules)
-    returns-2
+    returns-then-frames-k-ne-RFC
     (λ c. search rules)
     (λ c. search rules)
     loop-again
     (λ c. search rules)
-    returns-3
+    returns-then-frames-eq0
     (λ c. search rules)
     (λ c. search rules)
     (λ c. search rules)
     (λ c κs. search rules)
     (λ c. search rules)
-    returns-4
-    returns-5)
+    returns-then-not-has_byte-2
+    returns)

@@ -11,47 +11,43 @@ use Rattle.bus.proofs.Loops.{byte_stops, byte_goes, byte_ends}
 use Rattle.bus.proofs.import.byte_without.Statement.{statement}
 use Rattle.bus.proofs.import.byte_without.Tie as tie
 
-abbrev invariant-loop : tie.invariant-loop
-invariant-loop row i₀ i = (i ≤ length row) × (byte_without row ≡ i + byte_without (drop i row))
+abbrev invariant-loop-i : tie.invariant-loop-i
+invariant-loop-i row i₀ i = (i ≤ length row) × (byte_without row ≡ i + byte_without (drop i row))
 
-abbrev decreases-loop : tie.decreases-loop
-decreases-loop row i₀ i = length row - i
+abbrev decreases-loop-i : tie.decreases-loop-i
+decreases-loop-i row i₀ i = length row - i
 
-loop-holds : tie.Need-loop-init invariant-loop decreases-loop
+loop-holds : tie.Need-loop-i-init invariant-loop-i decreases-loop-i
 loop-holds c = (omega arith, sym (zero-add _))
 
-returns : tie.Need-returns invariant-loop decreases-loop
-returns c =
-    let m = c.before in
-    let l = m.before.before.before in
+returns-then-not-has_command : tie.Need-returns-then-not-has_command invariant-loop-i decreases-loop-i
+returns-then-not-has_command c =
     sym
-    (byte_stops l.before.before.args.row.now l.loop.i m.before.before.loop-test.true
-    (sym m.has-command.ensures ∙ not-true m.has-command.result c.if1.true) l.loop.invariant.1)
+    (byte_stops c.args.row.now c.loop-i.i c.loop-i-test.true
+    (sym c.has_command.ensures ∙ not-true c.has_command.result c.if-not-has_command.true-raw) c.loop-i.invariant.1)
 
-loop-again : tie.Need-loop-preserved invariant-loop decreases-loop
+loop-again : tie.Need-loop-i-preserved invariant-loop-i decreases-loop-i
 loop-again c =
-    let m = c.before in
-    let l = m.before.before.before in (
+    (
       omega arith,
-      byte_goes l.before.before.args.row.now l.loop.i m.before.before.loop-test.true
-          (sym m.has-command.ensures ∙ not-false m.has-command.result c.if1.false) l.loop.invariant.1,
+      byte_goes c.args.row.now c.loop-i.i c.loop-i-test.true
+          (sym c.has_command.ensures ∙ not-false c.has_command.result c.if-not-has_command.false-raw) c.loop-i.invariant.1,
     )
 
-returns-2 : tie.Need-returns-2 invariant-loop decreases-loop
-returns-2 c = let l = c.before in
-    sym (byte_ends l.before.before.args.row.now l.loop.i (omega arith) l.loop.invariant.1)
+returns : tie.Need-returns invariant-loop-i decreases-loop-i
+returns c = sym (byte_ends c.args.row.now c.loop-i.i (omega arith) c.loop-i.invariant.1)
 
 pub byte_without_spec : {M : Type 1} → statement M
 byte_without_spec =
     tie.close
     (tie.spec
-    invariant-loop
-    decreases-loop
+    invariant-loop-i
+    decreases-loop-i
     loop-holds
     (λ c. omega arith)
     (λ c κs. search rules)
-    returns
+    returns-then-not-has_command
     (λ c. omega arith)
     (λ c. omega arith)
     loop-again
-    returns-2)
+    returns)

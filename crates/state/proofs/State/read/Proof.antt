@@ -21,5 +21,5 @@ read_spec =
     (λ c. search rules)
     (λ c. search rules)
     (λ c. search rules)
-    (λ c. let r = c.before.before.before.before.before.before.before.before.before.before.before in
-    rw r.word_at.ensures))
+    (λ c. let r = c in
+    rw r.word_at-last.ensures))
