@@ -174,14 +174,6 @@ too_short (poll_count f) = false
 too_short (import row room) = ltb (length (words room)) (2 * length (numbers row))
 too_short (export row room) = ltb (length (numbers room)) (length (words row) / 2)
 
--- 6 of any call: these two
-abbrev pub no_room : Call → List ℕ → Bool
-no_room (on_area c) a = Full c a
-no_room (set_up items) a = false
-no_room (opens s) a = false
-no_room (on_frame c) a = too_short c
-no_room (walk f t) a = false
-
 -- a device lacks the ability that a local call asks for: load without 2, status without 4, wish without 128, poll
 -- status without 1 of byte 7
 abbrev pub lacks : Local → Device → Bool
@@ -273,7 +265,8 @@ table c a =
     row 3 (of_action NoDevice c a) ∷
     row 4 (BadFrame c) ∷
     row 5 (of_action Empty c a) ∷
-    row 6 (no_room c a) ∷
+    row 6 (of_action Full c a) ∷
+    row 6 (of_coding too_short c) ∷
     row 7 (of_action NoAbility c a) ∷
     row 8 (of_action (λ d x. TooLong d) c a) ∷
     row 9 (of_action Busy c a) ∷

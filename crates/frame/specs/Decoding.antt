@@ -32,7 +32,7 @@ has_c1 k = eqb k dab || (eqb k end || eqb k idy)
 
 -- The offset of a frame of kind k: the data bits, or what it is above the kind's first code; zero for kind 0
 unfoldable pub offset_in : ℕ → ℕ → ℕ
-offset_in k f = cond (has_c1 k) (data_in f) (cond (eqb k 0) 0 (f - first_of k))
+offset_in k f = cond (has_c1 k) (f % c1_adds) (cond (eqb k 0) 0 (f - first_of k))
 
 -- Its C1: the frame's, and zero for a kind without one
 unfoldable pub c1_in : ℕ → ℕ → ℕ

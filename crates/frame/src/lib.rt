@@ -345,7 +345,7 @@ pub fn with_c1(kind: u8, frame: u16) -> Message
 {
     Message {
         kind,
-        offset: data_bits(frame),
+        offset: (frame % C1) as u8,
         c1: (frame / C1 % 2) as u8,
     }
 }

@@ -247,7 +247,7 @@ module _ {L : Line} where
   rounds {T = T} {l = l} {l' = l'} (f ∷ X) k z z' =
       let w = row f X k refl z z' in
       let n : devices w.end ≡ devices l = same_devices w.flows ∙ sym (same_devices k) in
-      let v = rounds X w.flows (front_empty w.end w.shape) z' in
+      let v = rounds {T = after_all T} X w.flows (front_empty w.end w.shape) z' in
       put_then T f X _ l l' z (row_then T (devices l) [] X X (onto l f) l' w (λ ts. right_round X ts) (rw n at v))
 
   -- ---- The frames in the links first

@@ -12,13 +12,19 @@ ghost use Rattle.taker.specs.InPlace.{InPlace};
 use commands::command;
 use data::{data_or_end, identify};
 use extended::{heed, own, owns};
-use frame::{COMMANDS, IDENTIFY, READY};
 use ready::ready;
 use state::{Passed, State, sends};
 
 // The device that takes a frame, by value: the state that the frame can alter.
 #[derive(Clone, Copy)]
 pub struct Taker(pub State);
+
+// The first command, the first ready frame and the first IDY; what is below the first command is data or end.
+const COMMANDS: u16 = 0x400;
+
+const READY: u16 = 0x500;
+
+const IDENTIFY: u16 = 0x600;
 
 // What was passed on, once its state is in the record.
 fn put_back(passed: Passed, rec: &mut [u8]) -> Passed

@@ -7,12 +7,9 @@ use Rattle.frame.proofs.with_c1.Tie as tie
 
 returns : tie.Need-returns
 returns c =
-    let s = c.before in
-    let k = s.args.kind in
-    let f = s.args.frame in
     sym
-    (same k _ _ f (sym s.requires.kind) (offset_free k s.requires.free f ∙ sym c.data_bits.ensures)
-    (c1_free k s.requires.free f))
+    (same c.args.kind _ _ c.args.frame (sym c.requires.kind) (offset_free c.args.kind c.requires.free c.args.frame)
+    (c1_free c.args.kind c.requires.free c.args.frame))
 
 pub with_c1_spec : {M : Type 1} → statement M
-with_c1_spec = tie.close (tie.spec (λ c κs. search rules) (λ c. search rules) returns)
+with_c1_spec = tie.close (tie.spec (λ c. search rules) (λ c. search rules) returns)

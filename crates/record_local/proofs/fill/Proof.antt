@@ -7,10 +7,7 @@ use Rattle.record_local.proofs.fill.Tie as tie
 
 returns : tie.Need-returns
 returns c =
-    let p = c.before.before in
-    let z = p.before.before.before.before in
-    let s = z.before.before.before.before in
-    p.copy.ensures.1 ∙ rw (z.clear.ensures, s.requires.1) (padded_is s.args.bytes.now 32 s.requires.0)
+    c.copy.ensures.1 ∙ rw (c.clear.ensures, c.requires.1) (padded_is c.args.bytes.now 32 c.requires.0)
 
 pub fill_spec : {M : Type 1} → statement M
 fill_spec =

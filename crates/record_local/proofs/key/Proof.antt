@@ -9,19 +9,17 @@ use Rattle.record_local.proofs.InPlace.{remote_written, left}
 use Rattle.record_local.proofs.key.Statement.{statement}
 use Rattle.record_local.proofs.key.Tie as tie
 
+returns-then-rec-eq-REMS : tie.Need-returns-then-rec-eq-REMS
+unfolding key device_of
+returns-then-rec-eq-REMS c =
+    let b = c.args.rec.now in
+    left b (key (device_of b)) refl (remote_written b c.requires 0 ∙ ap record_of (search arms))
+
 returns : tie.Need-returns
 unfolding key device_of
 returns c =
-    let s = c.before.before in
-    let b = s.args.rec.now in
-    left b (key (device_of b)) refl (remote_written b s.requires 0 ∙ ap record_of (search arms))
-
-returns-2 : tie.Need-returns-2
-unfolding key device_of
-returns-2 c =
-    let s = c.before.before in
-    let b = s.args.rec.now in
-    left b (key (device_of b)) refl (sym s.requires.whole ∙ ap record_of (search arms))
+    let b = c.args.rec.now in
+    left b (key (device_of b)) refl (sym c.requires.whole ∙ ap record_of (search arms))
 
 pub key_spec : {M : Type 1} → statement M
 key_spec =
@@ -30,5 +28,5 @@ key_spec =
     (λ c. search rules)
     (λ c. search rules)
     (λ c. simp length-set)
-    returns
-    returns-2)
+    returns-then-rec-eq-REMS
+    returns)

@@ -10,32 +10,27 @@ use Rattle.record_local.proofs.InPlace.{left_alone, left}
 use Rattle.record_local.proofs.load.Statement.{statement}
 use Rattle.record_local.proofs.load.Tie as tie
 
+returns-then-bytes-gt-MOST_DATA : tie.Need-returns-then-bytes-gt-MOST_DATA
+unfolding loads
+returns-then-bytes-gt-MOST_DATA c =
+    left_alone c.args.rec.now 8 (λ e. omega arith) (search (arms, le-leb _ _ c.requires.1))
+
+returns-then-rec-eq-SENDING_DATA : tie.Need-returns-then-rec-eq-SENDING_DATA
+unfolding loads device_of
+returns-then-rec-eq-SENDING_DATA c =
+    left_alone c.args.rec.now 9 (λ e. omega arith) (search (arms, le-leb _ _ c.requires.1))
+
+returns-then-has : tie.Need-returns-then-has
+unfolding loads device_of
+returns-then-has c =
+    left c.args.rec.now (loading (device_of c.args.rec.now) c.args.bytes.now c.args.choice)
+    (search (arms, le-leb _ _ c.requires.1))
+    c.loading.ensures
+
 returns : tie.Need-returns
 unfolding loads
 returns c =
-    let s = c.before.before.before.before.before.before in
-    left_alone s.args.rec.now 8 (λ e. omega arith) (search (arms, le-leb _ _ s.requires.1))
-
-returns-2 : tie.Need-returns-2
-unfolding loads device_of
-returns-2 c =
-    let s = c.before.before.before.before.before.before.before.before in
-    left_alone s.args.rec.now 9 (λ e. omega arith) (search (arms, le-leb _ _ s.requires.1))
-
-returns-3 : tie.Need-returns-3
-unfolding loads device_of
-returns-3 c =
-    let l = c.before.before in
-    let s = l.before.before.before.before.before.before.before.before.before.before in
-    left s.args.rec.now (loading (device_of s.args.rec.now) s.args.bytes.now s.args.choice)
-    (search (arms, le-leb _ _ s.requires.1))
-    l.loading.ensures
-
-returns-4 : tie.Need-returns-4
-unfolding loads
-returns-4 c =
-    let s = c.before.before.before.before.before in
-    left_alone s.args.rec.now 7 (λ e. omega arith) (search (arms, le-leb _ _ s.requires.1))
+    left_alone c.args.rec.now 7 (λ e. omega arith) (search (arms, le-leb _ _ c.requires.1))
 
 pub load_spec : {M : Type 1} → statement M
 load_spec =
@@ -43,12 +38,12 @@ load_spec =
     (tie.spec
     (λ c κs. search rules)
     (λ c. search rules)
-    returns
+    returns-then-bytes-gt-MOST_DATA
     (λ c. search rules)
     (λ c. search rules)
-    returns-2
+    returns-then-rec-eq-SENDING_DATA
     (λ c κs. search rules)
     (λ c. search rules)
-    returns-3
+    returns-then-has
     (λ c. search rules)
-    returns-4)
+    returns)

@@ -11,15 +11,12 @@ use Rattle.record_local.proofs.loading.Tie as tie
 
 returns : tie.Need-returns
 returns c =
-    let f = c.before.before in
-    let s = f.before.before.before.before in
-    rw f.fill.ensures (data_written s.args.rec.now s.requires.0 s.args.bytes.now s.args.choice)
+    rw c.fill.ensures (data_written c.args.rec.now c.requires.0 c.args.bytes.now c.args.choice)
 
-same_length : tie.Need-same-length
+same_length : tie.Need-shape_of-rec
 same_length c =
-    let s = c.before.before.before.before.before.before in
-    ap length (returns c) ∙ record_wide (loading (device_of s.args.rec.now) s.args.bytes.now s.args.choice)
-    ∙ sym s.requires.0.long
+    ap length (returns c) ∙ record_wide (loading (device_of c.args.rec.now) c.args.bytes.now c.args.choice)
+    ∙ sym c.requires.0.long
 
 pub loading_spec : {M : Type 1} → statement M
 loading_spec =

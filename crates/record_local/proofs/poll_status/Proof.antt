@@ -12,19 +12,18 @@ use Rattle.record_local.proofs.InPlace.{poll_status_written, left_alone, left}
 use Rattle.record_local.proofs.poll_status.Statement.{statement}
 use Rattle.record_local.proofs.poll_status.Tie as tie
 
+returns-then-has_further : tie.Need-returns-then-has_further
+unfolding sets_poll_status
+returns-then-has_further c =
+    let b = c.args.rec.now in
+    left b (pollstatusing (device_of b) (yes_or_no c.args.status)) (search arms)
+    (poll_status_written b c.requires c.yes_or_no.result
+    ∙ ap (λ (x : ℕ). record_of (pollstatusing (device_of b) x)) c.yes_or_no.ensures)
+
 returns : tie.Need-returns
 unfolding sets_poll_status
 returns c =
-    let s = c.before.before.before.before.before in
-    let b = s.args.rec.now in
-    left b (pollstatusing (device_of b) (yes_or_no s.args.status)) (search arms)
-    (poll_status_written b s.requires c.yes_or_no.result
-    ∙ ap (λ (x : ℕ). record_of (pollstatusing (device_of b) x)) c.yes_or_no.ensures)
-
-returns-2 : tie.Need-returns-2
-unfolding sets_poll_status
-returns-2 c =
-    let s = c.before.before.before.before in left_alone s.args.rec.now 7 (λ e. omega arith) (search arms)
+    left_alone c.args.rec.now 7 (λ e. omega arith) (search arms)
 
 pub poll_status_spec : {M : Type 1} → statement M
 poll_status_spec =
@@ -34,6 +33,6 @@ poll_status_spec =
     (λ c κs. search rules)
     (λ c. search rules)
     (λ c. simp length-set)
-    returns
+    returns-then-has_further
     (λ c. search rules)
-    returns-2)
+    returns)

@@ -10,17 +10,16 @@ use Rattle.record_local.proofs.InPlace.{status_written, left_alone, left}
 use Rattle.record_local.proofs.status.Statement.{statement}
 use Rattle.record_local.proofs.status.Tie as tie
 
+returns-then-has : tie.Need-returns-then-has
+unfolding sets_status
+returns-then-has c =
+    let b = c.args.rec.now in
+    left b (statusing (device_of b) c.args.status) (search arms) (status_written b c.requires c.args.status)
+
 returns : tie.Need-returns
 unfolding sets_status
 returns c =
-    let s = c.before.before.before.before in
-    let b = s.args.rec.now in
-    left b (statusing (device_of b) s.args.status) (search arms) (status_written b s.requires s.args.status)
-
-returns-2 : tie.Need-returns-2
-unfolding sets_status
-returns-2 c =
-    let s = c.before.before.before.before in left_alone s.args.rec.now 7 (λ e. omega arith) (search arms)
+    left_alone c.args.rec.now 7 (λ e. omega arith) (search arms)
 
 pub status_spec : {M : Type 1} → statement M
 status_spec =
@@ -29,6 +28,6 @@ status_spec =
     (λ c κs. search rules)
     (λ c. search rules)
     (λ c. simp length-set)
-    returns
+    returns-then-has
     (λ c. search rules)
-    returns-2)
+    returns)

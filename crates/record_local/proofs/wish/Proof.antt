@@ -8,18 +8,16 @@ use Rattle.record_local.proofs.InPlace.{left_alone, left}
 use Rattle.record_local.proofs.wish.Statement.{statement}
 use Rattle.record_local.proofs.wish.Tie as tie
 
+returns-then-has : tie.Need-returns-then-has
+unfolding wishes
+returns-then-has c =
+    left c.args.rec.now (wishing (device_of c.args.rec.now) c.args.wish) (search arms)
+    c.wishing.ensures
+
 returns : tie.Need-returns
 unfolding wishes
 returns c =
-    let w = c.before.before in
-    let s = w.before.before.before.before.before.before in
-    left s.args.rec.now (wishing (device_of s.args.rec.now) s.args.wish) (search arms)
-    w.wishing.ensures
-
-returns-2 : tie.Need-returns-2
-unfolding wishes
-returns-2 c =
-    let s = c.before.before.before.before in left_alone s.args.rec.now 7 (λ e. omega arith) (search arms)
+    left_alone c.args.rec.now 7 (λ e. omega arith) (search arms)
 
 pub wish_spec : {M : Type 1} → statement M
 wish_spec =
@@ -28,6 +26,6 @@ wish_spec =
     (λ c κs. search rules)
     (λ c κs. search rules)
     (λ c. search rules)
-    returns
+    returns-then-has
     (λ c. search rules)
-    returns-2)
+    returns)

@@ -9,21 +9,19 @@ use Rattle.record_local.proofs.InPlace.{service_written}
 use Rattle.record_local.proofs.wishing.Statement.{statement}
 use Rattle.record_local.proofs.wishing.Tie as tie
 
-returns : tie.Need-returns
+returns-then-wish-eq0 : tie.Need-returns-then-wish-eq0
 unfolding wishing
-returns c =
-    let s = c.before in
-    service_written s.args.rec.now s.requires 0 ∙ ap record_of (search arms)
+returns-then-wish-eq0 c =
+    service_written c.args.rec.now c.requires 0 ∙ ap record_of (search arms)
 
-returns-2 : tie.Need-returns-2
+returns-then-rec-eq-NO_SERVICE : tie.Need-returns-then-rec-eq-NO_SERVICE
 unfolding wishing device_of
-returns-2 c =
-    let s = c.before.before.before in
-    service_written s.args.rec.now s.requires 1 ∙ ap record_of (search arms)
+returns-then-rec-eq-NO_SERVICE c =
+    service_written c.args.rec.now c.requires 1 ∙ ap record_of (search arms)
 
-returns-3 : tie.Need-returns-3
+returns : tie.Need-returns
 unfolding wishing device_of
-returns-3 c = let s = c.before.before.before in sym s.requires.whole ∙ ap record_of (search arms)
+returns c = sym c.requires.whole ∙ ap record_of (search arms)
 
 pub wishing_spec : {M : Type 1} → statement M
 wishing_spec =
@@ -31,9 +29,9 @@ wishing_spec =
     (tie.spec
     (λ c. search rules)
     (λ c. simp length-set)
-    returns
+    returns-then-wish-eq0
     (λ c. search rules)
     (λ c. search rules)
     (λ c. simp length-set)
-    returns-2
-    returns-3)
+    returns-then-rec-eq-NO_SERVICE
+    returns)

@@ -8,19 +8,18 @@ use Rattle.area.proofs.change.add_at.Statement.{statement}
 use Rattle.area.proofs.change.add_at.Tie as tie
 
 append-requires : tie.Need-append-requires
-append-requires c κs = let k = c.before in let s = k.before.before.before in let small : Bytes
-    s.args.area.now = λ i. (k.before.before.slice-known.given i).fits in (
-      link_lent s.args.area.now small s.args.j k.link_start.result s.requires.0 k.link_start.ensures,
-      rw (frames_lent s.args.area.now small s.args.j k.link_start.result s.requires.0
-          k.link_start.ensures) s.requires.1,
+append-requires c κs = let small : Bytes
+    c.args.area.now = λ i. (c.slice_known-1.given i).fits in (
+      link_lent c.args.area.now small c.args.j c.link_start-at.result c.requires.0 c.link_start-at.ensures,
+      rw (frames_lent c.args.area.now small c.args.j c.link_start-at.result c.requires.0
+          c.link_start-at.ensures) c.requires.1,
     )
 
 returns : tie.Need-returns
-returns c = let k = c.before.before.before.before in let s = k.before.before.before in
-    added s.args.area.now (λ i. (k.before.before.slice-known.given i).fits) s.args.j
-    k.link_start.result s.requires.0 k.link_start.ensures
-    s.args.frame _ (room_is (link (loop_of s.args.area.now) s.args.j) s.args.behind s.requires.1).0
-    s.requires.2 c.before.before.append.ensures
+returns c = added c.args.area.now (λ i. (c.slice_known-1.given i).fits) c.args.j
+    c.link_start-at.result c.requires.0 c.link_start-at.ensures
+    c.args.frame _ (room_is (link (loop_of c.args.area.now) c.args.j) c.args.behind c.requires.1).0
+    c.requires.2 c.append.ensures
 
 pub add_at_spec : {M : Type 1} → statement M
 add_at_spec =

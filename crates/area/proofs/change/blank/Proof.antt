@@ -7,8 +7,8 @@ use Rattle.area.proofs.change.blank.Statement.{statement}
 use Rattle.area.proofs.change.blank.Tie as tie
 
 returns : tie.Need-returns
-returns c = let k = c.before.before in let s = k.before.before.before in let n = s.args.n in
-    rw (k.clear.ensures, s.requires.2, blank_area n) (holds_of (blank_of n) (blank_sound n s.requires.0 s.requires.1))
+returns c = let n = c.args.n in
+    rw (c.clear.ensures, c.requires.2, blank_area n) (holds_of (blank_of n) (blank_sound n c.requires.0 c.requires.1))
 
 pub blank_spec : {M : Type 1} → statement M
 blank_spec =

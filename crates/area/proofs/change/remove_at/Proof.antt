@@ -5,19 +5,18 @@ use borrow.Author.Rules.{rules}
 use Rattle.area.proofs.change.remove_at.Statement.{statement}
 use Rattle.area.proofs.change.remove_at.Tie as tie
 
-drop-oldest-requires : tie.Need-drop-oldest-requires
-drop-oldest-requires c κs = let k = c.before in let s = k.before.before.before in let small : Bytes
-    s.args.area.now = λ i. (k.before.before.slice-known.given i).fits in (
-      link_lent s.args.area.now small s.args.j k.link_start.result s.requires.0 k.link_start.ensures,
-      rw (frames_lent s.args.area.now small s.args.j k.link_start.result s.requires.0
-          k.link_start.ensures) s.requires.1,
+drop_oldest-requires : tie.Need-drop_oldest-requires
+drop_oldest-requires c κs = let small : Bytes
+    c.args.area.now = λ i. (c.slice_known-1.given i).fits in (
+      link_lent c.args.area.now small c.args.j c.link_start-at.result c.requires.0 c.link_start-at.ensures,
+      rw (frames_lent c.args.area.now small c.args.j c.link_start-at.result c.requires.0
+          c.link_start-at.ensures) c.requires.1,
     )
 
 returns : tie.Need-returns
-returns c = let k = c.before.before.before.before in let s = k.before.before.before in
-    removed s.args.area.now (λ i. (k.before.before.slice-known.given i).fits) s.args.j
-    k.link_start.result s.requires.0 k.link_start.ensures _
-    c.before.before.drop-oldest.ensures
+returns c = removed c.args.area.now (λ i. (c.slice_known-1.given i).fits) c.args.j
+    c.link_start-at.result c.requires.0 c.link_start-at.ensures _
+    c.drop_oldest.ensures
 
 pub remove_at_spec : {M : Type 1} → statement M
 remove_at_spec =
@@ -28,6 +27,6 @@ remove_at_spec =
     (λ c. search rules)
     (λ c. search rules)
     (λ c. search rules)
-    drop-oldest-requires
+    drop_oldest-requires
     (λ c. search rules)
     returns)

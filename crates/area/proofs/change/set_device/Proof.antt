@@ -5,10 +5,9 @@ use Rattle.area.proofs.change.set_device.Statement.{statement}
 use Rattle.area.proofs.change.set_device.Tie as tie
 
 returns : tie.Need-returns
-returns c = let k = c.before.before.before.before in let s = k.before.before.before in
-    device_held s.args.area.now (λ i. (k.before.before.slice-known.given i).fits) s.args.i
-    k.record-start.result s.requires.0 k.record-start.ensures
-    s.args.d _ s.requires.1 c.before.before.write.ensures
+returns c = device_held c.args.area.now (λ i. (c.slice_known-1.given i).fits) c.args.i
+    c.record_start-at.result c.requires.0 c.record_start-at.ensures
+    c.args.d _ c.requires.1 c.write.ensures
 
 pub set_device_spec : {M : Type 1} → statement M
 set_device_spec =

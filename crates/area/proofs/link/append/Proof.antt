@@ -22,21 +22,21 @@ add_at : tie.Need-overflow-add-at
 add_at c = omega (arith, behind c)
 
 add_link : tie.Need-overflow-add-link
-add_link c = let s = c.before in omega
-    (arith, count_in s.args.link.now (λ i. (c.slice-known.given i).fits) s.requires.0, behind s)
+add_link c = omega
+    (arith, count_in c.args.link.now (λ i. (c.slice_known-1.given i).fits) c.requires.0, behind c.before)
 
-slice-write-link-2 : tie.Need-slice-write-link-2
-slice-write-link-2 c = simp length-set (omega (arith, behind c.before, c.before.requires.0.long))
+bounds-link-at : tie.Need-bounds-link-at
+bounds-link-at c = simp length-set (omega (arith, behind c.before, c.requires.0.long))
 
 add_link_2 : tie.Need-overflow-add-link-2
 add_link_2 c = omega (arith, behind c.before)
 
-slice-write-link-3 : tie.Need-slice-write-link-3
-slice-write-link-3 c = simp length-set (omega (arith, behind c.before, c.before.requires.0.long))
+bounds-link-at-2 : tie.Need-bounds-link-at-2
+bounds-link-at-2 c = simp length-set (omega (arith, behind c.before, c.requires.0.long))
 
 returns : tie.Need-returns
-returns c = let s = c.before in longer_is s.args.link.now (λ i. (c.slice-known.given i).fits) s.requires.0
-    s.args.behind s.args.frame s.requires.1
+returns c = longer_is c.args.link.now (λ i. (c.slice_known-1.given i).fits) c.requires.0
+    c.args.behind c.args.frame c.requires.1
 
 pub append_spec : {M : Type 1} → statement M
 append_spec =
@@ -48,9 +48,9 @@ append_spec =
     add_link
     (λ c. search rules)
     (λ c. search rules)
-    slice-write-link-2
+    bounds-link-at
     (λ c. search rules)
     add_link_2
-    slice-write-link-3
+    bounds-link-at-2
     (λ c. search rules)
     returns)

@@ -10,16 +10,15 @@ use Rattle.area.proofs.link.drop_oldest.Statement.{statement}
 use Rattle.area.proofs.link.drop_oldest.Tie as tie
 
 sub_t5 : tie.Need-overflow-sub-t5
-sub_t5 c = let s = c.before.before in omega
-    (arith, count_in s.args.link.now (λ i. (c.before.slice-known.given i).fits) s.requires.0, s.requires.1)
+sub_t5 c = omega
+    (arith, count_in c.args.link.now (λ i. (c.slice_known-1.given i).fits) c.requires.0, c.requires.1)
 
 returns : tie.Need-returns
-returns c = let k = c.before.before in let n =
-    k.before.before.before.before.before.before.before.before.before.before in let s = n.before in let b =
-    s.args.link.now in
-    k.copy.ensures.1
-    ∙ simp (drop_of_length-le b {i = link_size} (omega (arith, s.pre.0.long)), append-nil)
-    (shifted_is b (λ i. (n.slice-known.given i).fits) s.pre.0 s.pre.1)
+returns c = let b =
+    c.args.link.now in
+    c.copy.ensures.1
+    ∙ simp (drop_of_length-le b {i = link_size} (omega (arith, c.requires.0.long)), append-nil)
+    (shifted_is b (λ i. (c.slice_known-1.given i).fits) c.requires.0 c.requires.1)
 
 pub drop_oldest_spec : {M : Type 1} → statement M
 drop_oldest_spec =

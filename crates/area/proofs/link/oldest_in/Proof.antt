@@ -6,12 +6,12 @@ use borrow.Author.Rules.{rules}
 use Rattle.area.proofs.link.oldest_in.Statement.{statement}
 use Rattle.area.proofs.link.oldest_in.Tie as tie
 
-returns : tie.Need-returns
-returns c = sym (oldest_none c.before.before.before.args.link.now c.if1.true)
+returns-then-link-eq0 : tie.Need-returns-then-link-eq0
+returns-then-link-eq0 c = sym (oldest_none c.args.link.now c.if-link-eq0.true)
 
-returns-2 : tie.Need-returns-2
-returns-2 c = ap Oldest.Frame c.word_at.ensures
-    ∙ sym (oldest_some c.before.before.before.before.args.link.now c.before.if1.false)
+returns-else-link-eq0 : tie.Need-returns-else-link-eq0
+returns-else-link-eq0 c = ap Oldest.Frame c.word_at.ensures
+    ∙ sym (oldest_some c.args.link.now c.if-link-eq0.false)
 
 pub oldest_in_spec : {M : Type 1} → statement M
 oldest_in_spec =
@@ -19,5 +19,5 @@ oldest_in_spec =
     (tie.spec
     (λ c. search rules)
     (λ c κs. search rules)
-    returns
-    returns-2)
+    returns-then-link-eq0
+    returns-else-link-eq0)

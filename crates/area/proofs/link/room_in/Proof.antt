@@ -7,17 +7,17 @@ use Rattle.area.proofs.link.room_in.Statement.{statement}
 use Rattle.area.proofs.link.room_in.Tie as tie
 
 cast_n : tie.Need-overflow-cast-n
-cast_n c = omega (arith, c.shared-slice-known.given 0)
+cast_n c = omega (arith, c.shared_slice_known-1.given 0)
 
-returns : tie.Need-returns
-returns c = simp (
-  count_is c.before.before.args.link.now (omega (arith, c.if1.true)),
+returns-then-n-lt-DEPTH : tie.Need-returns-then-n-lt-DEPTH
+returns-then-n-lt-DEPTH c = simp (
+  count_is c.args.link.now (omega (arith, c.if-n-lt-DEPTH.true)),
   lt-ltb _ _
-      c.if1.true,
+      c.if-n-lt-DEPTH.true,
 )
 
-returns-2 : tie.Need-returns-2
-returns-2 c = simp (count_full c.before.before.args.link.now c.if1.false)
+returns-else-n-lt-DEPTH : tie.Need-returns-else-n-lt-DEPTH
+returns-else-n-lt-DEPTH c = simp (count_full c.args.link.now c.if-n-lt-DEPTH.false)
 
 pub room_in_spec : {M : Type 1} → statement M
 room_in_spec =
@@ -25,5 +25,5 @@ room_in_spec =
     (tie.spec
     (λ c. search rules)
     cast_n
-    returns
-    returns-2)
+    returns-then-n-lt-DEPTH
+    returns-else-n-lt-DEPTH)

@@ -6,7 +6,7 @@ use Rattle.area.proofs.lookup.link_start.Statement.{statement}
 use Rattle.area.proofs.lookup.link_start.Tie as tie
 
 returns : tie.Need-returns
-returns c = let s = c.before.before in omega (arith, sized s.args.area.now s.requires.judged, s.requires.there)
+returns c = omega (arith, sized c.args.area.now c.requires.judged, c.requires.there)
 
 pub link_start_spec : {M : Type 1} → statement M
 link_start_spec =

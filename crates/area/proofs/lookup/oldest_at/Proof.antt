@@ -7,10 +7,9 @@ use Rattle.area.proofs.lookup.oldest_at.Statement.{statement}
 use Rattle.area.proofs.lookup.oldest_at.Tie as tie
 
 returns : tie.Need-returns
-returns c = let k = c.before.before in let s = k.before.before in
-    c.oldest-in.ensures
-    ∙ ap oldest_of (frames_lent s.args.area.now (λ i. (k.before.shared-slice-known.given i).fits) s.args.j
-    k.link_start.result s.requires k.link_start.ensures)
+returns c = c.oldest_in.ensures
+    ∙ ap oldest_of (frames_lent c.args.area.now (λ i. (c.shared_slice_known-1.given i).fits) c.args.j
+    c.link_start-at.result c.requires c.link_start-at.ensures)
 
 pub oldest_at_spec : {M : Type 1} → statement M
 oldest_at_spec =
