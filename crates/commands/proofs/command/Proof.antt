@@ -17,7 +17,7 @@ returns-in_default : tie.Need-returns-in_default
 unfolding choose messages first_in first_of codes_in codes_of
 returns-in_default c =
     other 0x400 0x500 c.kind_of.result _ c.args.frame c.kind_of.ensures c.requires.1.first
-    c.requires.1.past c.in_default.is tt (c.sends-in_default.ensures (device_of c.args.rec.now))
+    c.requires.1.past c.in_default.in_default-own.keys17 tt (c.sends-in_default.ensures (device_of c.args.rec.now))
 
 -- PPE's number is below 16
 ppe-requires : tie.Need-ppe-requires

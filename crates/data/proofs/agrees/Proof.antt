@@ -18,42 +18,35 @@ record Read (f l : ℕ) (came sent : Message) : Type 0 where
   last_kind : sent.kind ≡ kind_at l
   last_offset : sent.offset ≡ (decoded l).offset
 
-read : (c : tie.After-data-of2) →
-    let s = c.before.before in
-    Read s.args.frame s.args.last c.before.data_of.result c.data-of2.result
+read : (c : tie.After-data_of-sent) →
+    Read c.args.frame c.args.last c.data_of-came.result c.data_of-sent.result
 read c =
     record {
-      kind = ap (λ (m : Message). m.kind) c.before.data_of.ensures;
-      offset = ap (λ (m : Message). m.offset) c.before.data_of.ensures;
-      last_kind = ap (λ (m : Message). m.kind) c.data-of2.ensures;
-      last_offset = ap (λ (m : Message). m.offset) c.data-of2.ensures;
+      kind = ap (λ (m : Message). m.kind) c.data_of-came.ensures;
+      offset = ap (λ (m : Message). m.offset) c.data_of-came.ensures;
+      last_kind = ap (λ (m : Message). m.kind) c.data_of-sent.ensures;
+      last_offset = ap (λ (m : Message). m.offset) c.data_of-sent.ensures;
     }
+
+returns-then-came-sent : tie.Need-returns-then-came-sent
+returns-then-came-sent c =
+    let r = read c.before.before.before in
+    rw (ne_eqb (kind_at c.args.frame) (kind_at c.args.last) (λ e. omega arith))
+
+returns-then-came-sent-2 : tie.Need-returns-then-came-sent-2
+returns-then-came-sent-2 c =
+    let r = read c.before.before.before.before.before.before in
+    rw (ne_eqb (decoded c.args.frame).offset (decoded c.args.last).offset (λ e. omega arith), and-false)
 
 returns : tie.Need-returns
 returns c =
-    let b = c.before.before.before in
-    let s = b.before.before in
-    let r = read b in
-    rw (ne_eqb (kind_at s.args.frame) (kind_at s.args.last) (λ e. omega arith))
-
-returns-2 : tie.Need-returns-2
-returns-2 c =
-    let b = c.before.before.before.before.before.before in
-    let s = b.before.before in
-    let r = read b in
-    rw (ne_eqb (decoded s.args.frame).offset (decoded s.args.last).offset (λ e. omega arith), and-false)
-
-returns-3 : tie.Need-returns-3
-returns-3 c =
-    let b = c.before.before.before.before.before.before in
-    let s = b.before.before in
-    let f = s.args.frame in
-    let l = s.args.last in
-    let r = read b in
+    let f = c.args.frame in
+    let l = c.args.last in
+    let r = read c.before.before.before.before.before.before in
     rw (
       eq-eqb (kind_at f) (kind_at l) (omega arith),
       eq-eqb (decoded f).offset (decoded l).offset (omega arith),
     )
 
 pub agrees_spec : {M : Type 1} → statement M
-agrees_spec = tie.close (tie.spec (λ c κs. search rules) (λ c κs. search rules) returns returns-2 returns-3)
+agrees_spec = tie.close (tie.spec (λ c κs. search rules) (λ c κs. search rules) returns-then-came-sent returns-then-came-sent-2 returns)

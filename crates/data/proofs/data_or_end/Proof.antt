@@ -6,23 +6,21 @@ use Rattle.device.proofs.Classes.{data_frame}
 use Rattle.data.proofs.data_or_end.Statement.{statement}
 use Rattle.data.proofs.data_or_end.Tie as tie
 
+returns-then-state-gt-ADDRESSED : tie.Need-returns-then-state-gt-ADDRESSED
+unfolding data_or_end
+returns-then-state-gt-ADDRESSED c =
+    rw (data_frame _ c.args.frame c.requires.1.past) (search arms)
+
 returns : tie.Need-returns
 unfolding data_or_end
 returns c =
-    let s = c.before.before.before.before in
-    rw (data_frame _ s.args.frame s.requires.1.past) (search arms)
-
-returns-2 : tie.Need-returns-2
-unfolding data_or_end
-returns-2 c =
-    let s = c.before.before.before.before in
-    rw (data_frame _ s.args.frame s.requires.1.past) (search (arms, c.heard.ensures))
+    rw (data_frame _ c.args.frame c.requires.1.past) (search (arms, c.heard.ensures))
 
 pub data_or_end_spec : {M : Type 1} → statement M
 data_or_end_spec =
     tie.close
     (tie.spec
     (λ c κs. search rules)
-    returns
+    returns-then-state-gt-ADDRESSED
     (λ c κs. search rules)
-    returns-2)
+    returns)

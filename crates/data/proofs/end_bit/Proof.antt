@@ -9,5 +9,5 @@ pub end_bit_spec : {M : Type 1} → statement M
 end_bit_spec =
     tie.close
     (tie.spec
-    (λ c. rw (eq-eqb c.before.before.args.message.kind end (omega arith)))
-    (λ c. rw (ne_eqb c.before.before.args.message.kind end (λ e. omega arith))))
+    (λ c. rw (eq-eqb c.args.message.kind end (omega arith)))
+    (λ c. rw (ne_eqb c.args.message.kind end (λ e. omega arith))))

@@ -15,36 +15,34 @@ use Rattle.state.specs.State.{with}
 use Rattle.data.proofs.heard.Statement.{statement}
 use Rattle.data.proofs.heard.Tie as tie
 
-c1 : (c : tie.After-data-of) → c.data_of.result.c1 ≡ (decoded c.before.args.frame).c1
-c1 c = ap (λ (m : Message). m.c1) c.data_of.ensures
+c1 : (c : tie.After-data_of-came) → c.data_of-came.result.c1 ≡ (decoded c.args.frame).c1
+c1 c = ap (λ (m : Message). m.c1) c.data_of-came.ensures
 
 -- the frame goes out marked
-out : (c : tie.After-marked) (d : Device) →
-    let s = c.before.before in c.marked.result ≡ marked (with d s.args.state) (decoded s.args.frame)
+out : (c : tie.After-marked-out) (d : Device) →
+    c.marked-out.result ≡ marked (with d c.args.state) (decoded c.args.frame)
 out c d =
-    let s = c.before.before in
-    let f = s.args.frame in
-    c.marked.ensures d (decoded f) (asked f (data_free f s.requires.past)).frame (c1 c.before)
+    let f = c.args.frame in
+    c.marked-out.ensures d (decoded f) (asked f (data_free f c.requires.past)).frame (c1 c.before)
+
+returns-then-state-eq1 : tie.Need-returns-then-state-eq1
+unfolding heard
+returns-then-state-eq1 c d =
+    let e = c.data_of-came.ensures in
+    rw (← out c.before.before.before d, ← ap (λ (n : Message). n.offset) e, ← (c.end_bit.ensures ∙ ap end_bit e)) (search arms)
 
 returns : tie.Need-returns
 unfolding heard
-returns c d =
-    let m = c.before.before.before in
-    let e = m.before.data_of.ensures in
-    rw (← out m d, ← ap (λ (n : Message). n.offset) e, ← (c.end-bit.ensures ∙ ap end_bit e)) (search arms)
-
-returns-2 : tie.Need-returns-2
-unfolding heard
-returns-2 c d = rw (← out c.before.before.before d) (search (arms, c.sends.ensures))
+returns c d = rw (← out c.before.before.before d) (search (arms, c.sends.ensures))
 
 pub heard_spec : {M : Type 1} → statement M
 heard_spec =
     tie.close
     (tie.spec
     (λ c κs. search rules)
-    (λ c κs. let a = asked c.before.args.frame (data_free c.before.args.frame c.before.requires.past) in
-    let e = c1 c in (omega (arith, c.before.requires.past), omega (arith, a.c1), omega (arith, a.within)))
+    (λ c κs. let a = asked c.args.frame (data_free c.args.frame c.requires.past) in
+    let e = c1 c in (omega (arith, c.requires.past), omega (arith, a.c1), omega (arith, a.within)))
     (λ c κs. search rules)
-    returns
+    returns-then-state-eq1
     (λ c κs. search rules)
-    returns-2)
+    returns)

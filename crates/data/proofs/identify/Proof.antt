@@ -37,51 +37,39 @@ module _ (d : Device) (f : ℕ) (i : IsIdentify f) (came : Message) (bits x : �
     omega (arith, e),
   )
 
-idy-of-requires : tie.Need-idy-of-requires
-idy-of-requires c κs =
-    let a = c.before in
-    let w = a.before in
-    let s = w.before.before in
-    c1_few (in_record s.args.rec.now s.args.state) s.args.frame s.requires.1 w.with-c1.result
-    a.answer.result _ w.with-c1.ensures a.answer.ensures refl
+idy_of-answered-requires : tie.Need-idy_of-answered-requires
+idy_of-answered-requires c κs =
+    c1_few (in_record c.args.rec.now c.args.state) c.args.frame c.requires.1 c.with_c1-came.result
+    c.answer.result _ c.with_c1-came.ensures c.answer.ensures refl
 
 marked-requires : tie.Need-marked-requires
 marked-requires c κs =
-    let a = c.before.before in
-    let w = a.before in
-    let s = w.before.before in
-    marks (in_record s.args.rec.now s.args.state) s.args.frame s.requires.1 w.with-c1.result
-    a.answer.result c.idy-of.result w.with-c1.ensures a.answer.ensures c.idy-of.ensures
+    marks (in_record c.args.rec.now c.args.state) c.args.frame c.requires.1 c.with_c1-came.result
+    c.answer.result c.idy_of-answered.result c.with_c1-came.ensures c.answer.ensures c.idy_of-answered.ensures
 
 returns : tie.Need-returns
 returns c =
-    let m = c.before in
-    let o = m.before in
-    let a = o.before.before in
-    let w = a.before in
-    let s = w.before.before in
-    let f = s.args.frame in
-    let b = s.args.rec.now in
-    let d = in_record b s.args.state in
-    let is = made_is d f s.requires.1 w.with-c1.result a.answer.result o.idy-of.result w.with-c1.ensures
-    a.answer.ensures o.idy-of.ensures in
-    let c1 = ap (λ (n : Message). n.c1) w.with-c1.ensures in
+    let f = c.args.frame in
+    let b = c.args.rec.now in
+    let d = in_record b c.args.state in
+    let is = made_is d f c.requires.1 c.with_c1-came.result c.answer.result c.idy_of-answered.result c.with_c1-came.ensures
+    c.answer.ensures c.idy_of-answered.ensures in
+    let c1 = ap (λ (n : Message). n.c1) c.with_c1-came.ensures in
     rw (
-      idy_frame _ f s.requires.1.first s.requires.1.past,
-      ← m.marked.ensures (device_of b) (answered d (decoded f)) is c1,
+      idy_frame _ f c.requires.1.first c.requires.1.past,
+      ← c.marked.ensures (device_of b) (answered d (decoded f)) is c1,
     ) (c.sends.ensures (device_of b))
 
 pub identify_spec : {M : Type 1} → statement M
 identify_spec =
     tie.close
     (tie.spec
-    (λ c κs. let s = c.before in
-    let f = s.args.frame in
-    let k = idy_kind f s.requires.1.first s.requires.1.past in
-    let e = idy_free f s.requires.1.first s.requires.1.past in
+    (λ c κs. let f = c.args.frame in
+    let k = idy_kind f c.requires.1.first c.requires.1.past in
+    let e = idy_free f c.requires.1.first c.requires.1.past in
     record { kind = sym k; free = rw k at e })
     (λ c κs. search rules)
-    idy-of-requires
+    idy_of-answered-requires
     marked-requires
     (λ c κs. search rules)
     returns)

@@ -5,17 +5,17 @@ use Rattle.device.proofs.Arms.{arms}
 use Rattle.data.proofs.returned.Statement.{statement}
 use Rattle.data.proofs.returned.Tie as tie
 
+returns-then-state-eq1 : tie.Need-returns-then-state-eq1
+unfolding returned
+returns-then-state-eq1 c = search (arms, c.stops.ensures)
+
+returns-then-agrees : tie.Need-returns-then-agrees
+unfolding returned
+returns-then-agrees c = search arms
+
 returns : tie.Need-returns
 unfolding returned
-returns c = search (arms, c.stops.ensures)
-
-returns-2 : tie.Need-returns-2
-unfolding returned
-returns-2 c = search arms
-
-returns-3 : tie.Need-returns-3
-unfolding returned
-returns-3 c = search (arms, c.stops2.ensures)
+returns c = search (arms, c.stops-2.ensures)
 
 pub returned_spec : {M : Type 1} → statement M
 returned_spec =
@@ -23,8 +23,8 @@ returned_spec =
     (tie.spec
     (λ c κs. search rules)
     (λ c κs. search rules)
-    returns
+    returns-then-state-eq1
     (λ c κs. search rules)
-    returns-2
+    returns-then-agrees
     (λ c κs. search rules)
-    returns-3)
+    returns)

@@ -11,10 +11,10 @@ agrees_spec =
     tie.close
     (tie.spec
     (λ c. search rules)
-    (λ c. omega (arith, c.shared-slice-known2.given 14))
+    (λ c. omega (arith, c.shared_slice_known-2-1.given 14))
     (λ c. search rules)
-    (λ c. omega (arith, c.shared-slice-known3.given 15))
-    (λ c. omega (arith, c.shared-slice-known3.given 15))
-    (λ c. omega (arith, c.shared-slice-known3.given 14, c.shared-slice-known3.given 15))
+    (λ c. omega (arith, c.shared_slice_known-3-1.given 15))
+    (λ c. omega (arith, c.shared_slice_known-3-1.given 15))
+    (λ c. omega (arith, c.shared_slice_known-3-1.given 14, c.shared_slice_known-3-1.given 15))
     (λ c κs. search rules)
-    (λ c. rw c.before.before.before.before.read.ensures))
+    (λ c. rw c.read-last.ensures))

@@ -8,5 +8,5 @@ pub end_bit_spec : {M : Type 1} → statement M
 end_bit_spec =
     tie.close
     (tie.spec
-    (λ c. rw (ne_eqb _ end c.if1.true))
-    (λ c. rw (eq-eqb _ end c.if1.false)))
+    (λ c. rw (ne_eqb _ end c.if-message-ne-END.true))
+    (λ c. rw (eq-eqb _ end c.if-message-ne-END.false)))

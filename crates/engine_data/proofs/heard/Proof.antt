@@ -13,6 +13,6 @@ heard_spec =
     (tie.spec
     (λ c κs. search rules)
     (λ c. search rules)
-    (λ c. rw (← c.before.before.marked_on.ensures) (search arms))
+    (λ c. rw (← c.marked_on-out.ensures) (search arms))
     (λ c κs. search rules)
-    (λ c. rw (← c.before.before.before.marked_on.ensures, ← c.end-bit.ensures) (search arms)))
+    (λ c. rw (← c.marked_on-out.ensures, ← c.end_bit.ensures) (search arms)))

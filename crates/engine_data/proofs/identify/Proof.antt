@@ -5,7 +5,7 @@ use Rattle.engine_data.proofs.identify.Statement.{statement}
 use Rattle.engine_data.proofs.identify.Tie as tie
 
 returns : tie.Need-returns
-returns c = rw (c.marked.ensures, c.before.before.answer.ensures)
+returns c = rw (c.marked.ensures, c.answer-bits.ensures)
 
 pub identify_spec : {M : Type 1} → statement M
 unfolding device_of

@@ -13,13 +13,10 @@ use Rattle.engine_extended.proofs.aau.Tie as tie
 returns : tie.Need-returns
 unfolding device_of
 returns c =
-    let p = c.before.before in
-    let t = p.before.before.before.before in
-    let f = t.before.before.before.before in
-    let b = f.before.before.before.before.before.args.rec.now in
+    let b = c.args.rec.now in
     let x = get_or b 20 0 % received in
-    let e = t.take_second.ensures.1 ∙ ap (λ (d : Device). seconding d x) f.flag.ensures.1 in
-    (p.place.ensures.0, p.place.ensures.1 ∙ ap (λ (d : Device). placed d (get_or b 1 0) 0) e)
+    let e = c.take_second.ensures.1 ∙ ap (λ (d : Device). seconding d x) c.flag.ensures.1 in
+    (c.place.ensures.0, c.place.ensures.1 ∙ ap (λ (d : Device). placed d (get_or b 1 0) 0) e)
 
 pub aau_spec : {M : Type 1} → statement M
 unfolding device_of

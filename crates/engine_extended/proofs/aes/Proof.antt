@@ -13,17 +13,13 @@ use Rattle.record.specs.Record.{device_of}
 use Rattle.engine_extended.proofs.aes.Statement.{statement}
 use Rattle.engine_extended.proofs.aes.Tie as tie
 
-returns-2 : tie.Need-returns-2
+returns : tie.Need-returns
 unfolding device_of aes
-returns-2 c =
-    let p = c.before.before in
-    let t = p.before.before.before.before in
-    let i = t.before.before in
-    let s = i.before.before.before.before in
-    let f = s.args.frame in
-    let a = get_or s.args.rec.now 2 0 in
-    let e = p.place.ensures.1 ∙ ap (λ (d : Device). placed d a 2) t.take_second.ensures.1 in
-    (p.place.ensures.0, when_eq _ _ i.if1.false (ap (λ (d : Device). sends d (f + 1)) e))
+returns c =
+    let f = c.args.frame in
+    let a = get_or c.args.rec.now 2 0 in
+    let e = c.place.ensures.1 ∙ ap (λ (d : Device). placed d a 2) c.take_second.ensures.1 in
+    (c.place.ensures.0, when_eq _ _ c.if-rec-ne0.false (ap (λ (d : Device). sends d (f + 1)) e))
 
 pub aes_spec : {M : Type 1} → statement M
 unfolding device_of aes
@@ -37,4 +33,4 @@ aes_spec =
     (λ c κs. search rules)
     (λ c. search rules)
     (λ c. search rules)
-    returns-2)
+    returns)

@@ -11,14 +11,11 @@ use Rattle.engine_bytes.proofs.Ways.{able, unable}
 use Rattle.engine_extended.proofs.lad.Statement.{statement}
 use Rattle.engine_extended.proofs.lad.Tie as tie
 
-returns-3 : tie.Need-returns-3
+returns : tie.Need-returns
 unfolding device_of extended_lad
-returns-3 c =
-    let f = c.before.before in
-    let r = f.before.before.before.before in
-    let i = r.before.before in
-    let e = f.flag3.ensures.1 ∙ ap (λ (d : Device). flagging d 32 0) r.to-remote.ensures.1 in
-    (f.flag3.ensures.0, when_eq _ _ i.before.before.if1.false (able _ _ i.if2.false e))
+returns c =
+    let e = c.flag-2.ensures.1 ∙ ap (λ (d : Device). flagging d 32 0) c.to_remote.ensures.1 in
+    (c.flag-2.ensures.0, when_eq _ _ c.if-address-rec.false (able _ _ c.if-rec-eq0.false e))
 
 pub lad_spec : {M : Type 1} → statement M
 unfolding device_of extended_lad
@@ -36,4 +33,4 @@ lad_spec =
     (λ c κs. search rules)
     (λ c κs. search rules)
     (λ c. search rules)
-    returns-3)
+    returns)

@@ -9,14 +9,11 @@ use Rattle.record.specs.Record.{device_of}
 use Rattle.engine_extended.proofs.sad.Statement.{statement}
 use Rattle.engine_extended.proofs.sad.Tie as tie
 
-returns : tie.Need-returns
+returns-then-address-second : tie.Need-returns-then-address-second
 unfolding device_of sad
-returns c =
-    let t = c.before.before in
-    let l = t.before.before.before.before in
-    let i = l.before.before in
-    let e = t.sad-talks.ensures.1 ∙ ap (λ (d : Device). sad_talks d) l.sad-listens.ensures.1 in
-    (t.sad-talks.ensures.0, when_eq _ _ i.if1.true e)
+returns-then-address-second c =
+    let e = c.sad_talks.ensures.1 ∙ ap (λ (d : Device). sad_talks d) c.sad_listens.ensures.1 in
+    (c.sad_talks.ensures.0, when_eq _ _ c.if-address-second.true e)
 
 pub sad_spec : {M : Type 1} → statement M
 unfolding device_of sad
@@ -27,7 +24,7 @@ sad_spec =
     (λ c κs. search rules)
     (λ c κs. search rules)
     (λ c. search rules)
-    returns
+    returns-then-address-second
     (λ c κs. search rules)
     (λ c κs. search rules)
     (λ c. search rules)

@@ -8,17 +8,14 @@ use Rattle.engine_bytes.proofs.Ways.{able, unable}
 use Rattle.engine_ready.proofs.sst.Statement.{statement}
 use Rattle.engine_ready.proofs.sst.Tie as tie
 
-returns-3 : tie.Need-returns-3
+returns : tie.Need-returns
 unfolding device_of sst
-returns-3 c =
-    let p = c.before.before in
-    let t = p.before.before.before.before in
-    let o = t.before.before.before.before in
-    let i = o.before.before in (
-      p.continues.ensures.0,
-      when_eq _ _ i.before.before.if1.false
-          (able _ _ i.if2.false
-          (continues_on p.continues.ensures.1 (talking_on 3 t.talk.ensures.1 o.polls.ensures.1))),
+returns c =
+    (
+      c.continues.ensures.0,
+      when_eq _ _ c.if-rec-ne-ADDRESSED.false
+          (able _ _ c.if-rec-eq0.false
+          (continues_on c.continues.ensures.1 (talking_on 3 c.talk.ensures.1 c.polls.ensures.1))),
     )
 
 pub sst_spec : {M : Type 1} → statement M
@@ -34,4 +31,4 @@ sst_spec =
     (λ c κs. search rules)
     (λ c κs. search rules)
     (λ c. search rules)
-    returns-3)
+    returns)

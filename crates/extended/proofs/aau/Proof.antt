@@ -12,23 +12,18 @@ use Rattle.extended.proofs.aau.Statement.{statement}
 use Rattle.extended.proofs.aau.Tie as tie
 
 -- the record with the flags cleared
-take-second-requires : tie.Need-take-second-requires
-take-second-requires c κs =
-    let f = c.before.before.before in
-    let s = f.before.before.before.before.before in
-    (still_record _ (by_flags 0 0) s.args.rec.now f.flag.ensures, search rules)
+take_second-requires : tie.Need-take_second-requires
+take_second-requires c κs =
+    (still_record _ (by_flags 0 0) c.args.rec.now c.flag.ensures, search rules)
 
 returns : tie.Need-returns
 unfolding device_of
 returns c =
-    let t = c.before.before.before in
-    let f = t.before.before.before.before in
-    let s = f.before.before.before.before.before in
-    let b = s.args.rec.now in
+    let b = c.args.rec.now in
     let x = get_or b 20 0 % received in
     stands _ (by_both x) b
-    (t.take_second.ensures
-    ∙ ap (λ (d : Device). record_of (seconding d x)) (read_back _ (by_flags 0 0) b f.flag.ensures))
+    (c.take_second.ensures
+    ∙ ap (λ (d : Device). record_of (seconding d x)) (read_back _ (by_flags 0 0) b c.flag.ensures))
     c.placed.result
     (ap (λ (d : Device). seconding (flagging d 0 0) x) (c.placed.ensures (device_of b)))
 
@@ -39,7 +34,7 @@ aau_spec =
     (λ c. search rules)
     (λ c. search rules)
     (λ c κs. search rules)
-    take-second-requires
+    take_second-requires
     (λ c κs. search rules)
     (λ c. search rules)
     returns)

@@ -13,26 +13,22 @@ use Rattle.extended.proofs.InPlace.{unchanged, by_second, does, stays}
 use Rattle.extended.proofs.aes.Statement.{statement}
 use Rattle.extended.proofs.aes.Tie as tie
 
+returns-then-state-eq0 : tie.Need-returns-then-state-eq0
+unfolding aes
+returns-then-state-eq0 c =
+    let b = c.args.rec.now in
+    let a = c.args.address in
+    let h = c.sends.ensures (device_of b)
+    ∙ ap (λ (x : Device). sends x (c.args.frame + 1)) (c.placed.ensures (device_of b)) in
+    let e = ap (λ (x : Sent).
+    let q : Sent = record { device = seconding x.device a; frame = x.frame; handed = x.handed } in q) h in
+    does _ (by_second a) b c.take_second.ensures c.sends.result (search (arms, e))
+
 returns : tie.Need-returns
 unfolding aes
 returns c =
-    let p = c.before in
-    let t = p.before.before.before in
-    let s = t.before.before.before.before.before in
-    let b = s.args.rec.now in
-    let a = s.args.address in
-    let h = c.sends.ensures (device_of b)
-    ∙ ap (λ (x : Device). sends x (s.args.frame + 1)) (p.placed.ensures (device_of b)) in
-    let e = ap (λ (x : Sent).
-    let q : Sent = record { device = seconding x.device a; frame = x.frame; handed = x.handed } in q) h in
-    does _ (by_second a) b t.take_second.ensures c.sends.result (search (arms, e))
-
-returns-2 : tie.Need-returns-2
-unfolding aes
-returns-2 c =
-    let s = c.before.before.before.before in
-    let b = s.args.rec.now in
-    does _ unchanged b (stays b s.requires.0) c.sends2.result (search (arms, c.sends2.ensures (device_of b)))
+    let b = c.args.rec.now in
+    does _ unchanged b (stays b c.requires.0) c.sends-2.result (search (arms, c.sends-2.ensures (device_of b)))
 
 pub aes_spec : {M : Type 1} → statement M
 aes_spec =
@@ -43,6 +39,6 @@ aes_spec =
     (λ c. search rules)
     (λ c κs. search rules)
     (λ c. search rules)
-    returns
+    returns-then-state-eq0
     (λ c κs. search rules)
-    returns-2)
+    returns)

@@ -7,8 +7,7 @@ use Rattle.extended.proofs.flag.Tie as tie
 
 returns : tie.Need-returns
 returns c =
-    let s = c.before.before in
-    flags_written s.args.rec.now s.requires.0 s.args.listen s.args.talk
+    flags_written c.args.rec.now c.requires.0 c.args.listen c.args.talk
 
 pub flag_spec : {M : Type 1} → statement M
 flag_spec =

@@ -8,34 +8,24 @@ use Rattle.extended.proofs.Owned.{heeds, heeds_none, simple_heeds}
 use Rattle.extended.proofs.heed.Statement.{statement}
 use Rattle.extended.proofs.heed.Tie as tie
 
+returns-then-kind : tie.Need-returns-then-kind
+returns-then-kind c =
+    let b = c.args.rec.now in
+    c.flag.ensures
+    ∙ ap record_of (heeds (device_of b) _ (sym c.has_further.ensures ∙ c.if-has_further.true)
+    (ap command_kind (sym (c.number-kind.ensures ∙ c.kind_of.ensures)) ∙ c.if-kind.true))
+
+returns-then-has_further : tie.Need-returns-then-has_further
+returns-then-has_further c =
+    let b = c.args.rec.now in
+    stays b c.requires
+    ∙ ap record_of (heeds_none (device_of b) _ (sym c.has_further.ensures ∙ c.if-has_further.true)
+    (ap command_kind (sym (c.number-kind.ensures ∙ c.kind_of.ensures)) ∙ c.if-kind.false))
+
 returns : tie.Need-returns
 returns c =
-    let f = c.before.before in
-    let i = f.before.before in
-    let n = i.before in
-    let k = n.before in
-    let j = k.before in
-    let b = j.before.before.before.before.args.rec.now in
-    f.flag.ensures
-    ∙ ap record_of (heeds (device_of b) _ (sym j.before.has-further.ensures ∙ j.if1.true)
-    (ap command_kind (sym (n.number.ensures ∙ k.kind-of.ensures)) ∙ i.if2.true))
-
-returns-2 : tie.Need-returns-2
-returns-2 c =
-    let n = c.before in
-    let k = n.before in
-    let j = k.before in
-    let s = j.before.before.before.before in
-    let b = s.args.rec.now in
-    stays b s.requires
-    ∙ ap record_of (heeds_none (device_of b) _ (sym j.before.has-further.ensures ∙ j.if1.true)
-    (ap command_kind (sym (n.number.ensures ∙ k.kind-of.ensures)) ∙ c.if2.false))
-
-returns-3 : tie.Need-returns-3
-returns-3 c =
-    let s = c.before.before.before.before in
-    let b = s.args.rec.now in
-    stays b s.requires ∙ ap record_of (simple_heeds (device_of b) _ (sym c.before.has-further.ensures ∙ c.if1.false))
+    let b = c.args.rec.now in
+    stays b c.requires ∙ ap record_of (simple_heeds (device_of b) _ (sym c.has_further.ensures ∙ c.if-has_further.false))
 
 pub heed_spec : {M : Type 1} → statement M
 heed_spec =
@@ -46,8 +36,8 @@ heed_spec =
     (λ c κs. search rules)
     (λ c κs. search rules)
     (λ c. search rules)
-    returns
+    returns-then-kind
     (λ c. search rules)
-    returns-2
+    returns-then-has_further
     (λ c. search rules)
-    returns-3)
+    returns)

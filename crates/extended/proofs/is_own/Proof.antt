@@ -13,15 +13,13 @@ use Rattle.extended.specs.Own.{is_own}
 use Rattle.extended.proofs.is_own.Statement.{statement}
 use Rattle.extended.proofs.is_own.Tie as tie
 
-returns-8 : tie.Need-returns-8
+returns-in_default : tie.Need-returns-in_default
 unfolding messages first_in first_of codes_in codes_of
-returns-8 c =
-    let k = c.before in
-    let s = k.before in
-    let f = s.args.frame in
+returns-in_default c =
+    let f = c.args.frame in
     sym (not-true (is_own (kind_at f))
     (fitting_kind 0x400 0x600 (λ n. not (is_own n)) (rest 0x400 0x600 (extended_rules (device_of []) f (decoded f)) 0 43)
-    k.kind-of.result f k.kind-of.ensures s.requires.0 s.requires.1 c.match.keys8 tt))
+    c.kind_of.result f c.kind_of.ensures c.requires.0 c.requires.1 c.in_default.in_default-own.keys8 tt))
 
 pub is_own_spec : {M : Type 1} → statement M
 is_own_spec =
@@ -35,18 +33,11 @@ is_own_spec =
     (λ c. search rules)
     (λ c. search rules)
     (λ c. search rules)
-    (λ c. let k = c.before.before in
-    rw (sym k.kind-of.ensures ∙ ap number_of c.enum_told.given.1))
-    (λ c. let k = c.before.before in
-    rw (sym k.kind-of.ensures ∙ ap number_of c.enum-told2.given.1))
-    (λ c. let k = c.before.before in
-    rw (sym k.kind-of.ensures ∙ ap number_of c.enum-told3.given.1))
-    (λ c. let k = c.before.before in
-    rw (sym k.kind-of.ensures ∙ ap number_of c.enum-told4.given.1))
-    (λ c. let k = c.before.before in
-    rw (sym k.kind-of.ensures ∙ ap number_of c.enum-told5.given.1))
-    (λ c. let k = c.before.before in
-    rw (sym k.kind-of.ensures ∙ ap number_of c.enum-told6.given.1))
-    (λ c. let k = c.before.before in
-    rw (sym k.kind-of.ensures ∙ ap number_of c.enum-told7.given.1))
-    returns-8)
+    (λ c. rw (sym c.kind_of.ensures ∙ ap number_of c.in-Lad.is))
+    (λ c. rw (sym c.kind_of.ensures ∙ ap number_of c.in-Tad.is))
+    (λ c. rw (sym c.kind_of.ensures ∙ ap number_of c.in-Sad.is))
+    (λ c. rw (sym c.kind_of.ensures ∙ ap number_of c.in-Aau.is))
+    (λ c. rw (sym c.kind_of.ensures ∙ ap number_of c.in-Aad.is))
+    (λ c. rw (sym c.kind_of.ensures ∙ ap number_of c.in-Aes.is))
+    (λ c. rw (sym c.kind_of.ensures ∙ ap number_of c.in-Aep.is))
+    returns-in_default)

@@ -11,28 +11,22 @@ use Rattle.extended.proofs.InPlace.{by_flags, stands}
 use Rattle.extended.proofs.lad.Statement.{statement}
 use Rattle.extended.proofs.lad.Tie as tie
 
+returns-then-has : tie.Need-returns-then-has
+unfolding extended_lad
+returns-then-has c =
+    let b = c.args.rec.now in
+    let e = ap (λ (x : Device). flagging x received 0) (c.to_remote.ensures (device_of b)) in
+    stands _ (by_flags received 0) b c.flag.ensures c.to_remote.result (search (arms, e))
+
+returns-then-address-state : tie.Need-returns-then-address-state
+unfolding extended_lad
+returns-then-address-state c =
+    stands _ (by_flags 0 0) c.args.rec.now c.flag-then-address-state.ensures c.args.state (search arms)
+
 returns : tie.Need-returns
 unfolding extended_lad
 returns c =
-    let k = c.before.before.before in
-    let s = k.before.before.before.before.before.before.before.before in
-    let b = s.args.rec.now in
-    let e = ap (λ (x : Device). flagging x received 0) (c.to-remote.ensures (device_of b)) in
-    stands _ (by_flags received 0) b k.flag.ensures c.to-remote.result (search (arms, e))
-
-returns-2 : tie.Need-returns-2
-unfolding extended_lad
-returns-2 c =
-    let k = c.before.before in
-    let s = k.before.before.before.before.before.before.before.before in
-    stands _ (by_flags 0 0) s.args.rec.now k.flag2.ensures s.args.state (search arms)
-
-returns-3 : tie.Need-returns-3
-unfolding extended_lad
-returns-3 c =
-    let k = c.before.before in
-    let s = k.before.before.before.before.before in
-    stands _ (by_flags 0 0) s.args.rec.now k.flag3.ensures s.args.state (search arms)
+    stands _ (by_flags 0 0) c.args.rec.now c.flag-2.ensures c.args.state (search arms)
 
 pub lad_spec : {M : Type 1} → statement M
 lad_spec =
@@ -42,10 +36,10 @@ lad_spec =
     (λ c κs. search rules)
     (λ c κs. search rules)
     (λ c. search rules)
-    returns
+    returns-then-has
     (λ c κs. search rules)
     (λ c. search rules)
-    returns-2
+    returns-then-address-state
     (λ c κs. search rules)
     (λ c. search rules)
-    returns-3)
+    returns)

@@ -28,96 +28,63 @@ both_ways false e f = let z : ◌≡◌ {A = ℕ} 0 1 = cc in omega arith
 aes-requires : tie.Need-aes-requires
 unfolding choose messages first_in first_of codes_in codes_of has_c1
 aes-requires c κs =
-    let t = c.before.before in
-    let k = t.before.before in
-    let s = k.before.before in
-    let a = aes_address s.args.frame (sym k.kind-of.ensures ∙ ap number_of t.enum-told6.given.1) in
-    (search rules, search rules, rw c.offset-of4.ensures (omega (arith, a)))
+    let a = aes_address c.args.frame (sym c.kind_of.ensures ∙ ap number_of c.in-Aes.is) in
+    (search rules, search rules, rw c.offset_of-in-Aes.ensures (omega (arith, a)))
 
-returns : tie.Need-returns
+returns-in-Lad : tie.Need-returns-in-Lad
 unfolding choose messages first_in first_of codes_in codes_of
-returns c =
-    let l = c.before.before.before in
-    let o = l.before in
-    let t = o.before.before in
-    let k = t.before.before in
-    passed k.before.before.args.frame c.sends.result l.lad.ensures c.sends.ensures
-    (listed_extended Lad _ _ k.kind-of.ensures t.enum_told.given.1 (rw o.offset-of.ensures))
+returns-in-Lad c =
+    passed c.args.frame c.sends.result c.lad.ensures c.sends.ensures
+    (listed_extended Lad _ _ c.kind_of.ensures c.in-Lad.is (rw c.offset_of.ensures))
 
-returns-2 : tie.Need-returns-2
+returns-in-Tad : tie.Need-returns-in-Tad
 unfolding choose messages first_in first_of codes_in codes_of
-returns-2 c =
-    let l = c.before.before.before in
-    let o = l.before in
-    let t = o.before.before in
-    let k = t.before.before in
-    passed k.before.before.args.frame c.sends2.result l.tad.ensures c.sends2.ensures
-    (listed_extended Tad _ _ k.kind-of.ensures t.enum-told2.given.1 (rw o.offset-of2.ensures))
+returns-in-Tad c =
+    passed c.args.frame c.sends-in-Tad.result c.tad.ensures c.sends-in-Tad.ensures
+    (listed_extended Tad _ _ c.kind_of.ensures c.in-Tad.is (rw c.offset_of-in-Tad.ensures))
 
-returns-3 : tie.Need-returns-3
+returns-in-Sad : tie.Need-returns-in-Sad
 unfolding choose messages first_in first_of codes_in codes_of
-returns-3 c =
-    let l = c.before.before.before in
-    let o = l.before in
-    let t = o.before.before in
-    let k = t.before.before in
-    passed k.before.before.args.frame c.sends3.result l.sad.ensures c.sends3.ensures
-    (listed_extended Sad _ _ k.kind-of.ensures t.enum-told3.given.1 (rw o.offset-of3.ensures))
+returns-in-Sad c =
+    passed c.args.frame c.sends-in-Sad.result c.sad.ensures c.sends-in-Sad.ensures
+    (listed_extended Sad _ _ c.kind_of.ensures c.in-Sad.is (rw c.offset_of-in-Sad.ensures))
 
-returns-4 : tie.Need-returns-4
+returns-in-Aau : tie.Need-returns-in-Aau
 unfolding choose messages first_in first_of codes_in codes_of
-returns-4 c =
-    let l = c.before.before.before in
-    let t = l.before.before in
-    let k = t.before.before in
-    passed k.before.before.args.frame c.sends4.result l.aau.ensures c.sends4.ensures
-    (listed_extended Aau _ _ k.kind-of.ensures t.enum-told4.given.1 refl)
+returns-in-Aau c =
+    passed c.args.frame c.sends-in-Aau.result c.aau.ensures c.sends-in-Aau.ensures
+    (listed_extended Aau _ _ c.kind_of.ensures c.in-Aau.is refl)
 
-returns-5 : tie.Need-returns-5
+returns-in-Aad : tie.Need-returns-in-Aad
 unfolding choose messages first_in first_of codes_in codes_of
-returns-5 c =
-    let t = c.before in
-    let k = t.before.before in
-    let s = k.before.before in
-    let b = s.args.rec.now in
-    passed s.args.frame c.sends5.result
-    (stands _ unchanged b (stays b s.requires.0) s.args.state refl) c.sends5.ensures
-    (listed_extended Aad _ _ k.kind-of.ensures t.enum-told5.given.1 refl)
+returns-in-Aad c =
+    let b = c.args.rec.now in
+    passed c.args.frame c.sends-in-Aad.result
+    (stands _ unchanged b (stays b c.requires.0) c.args.state refl) c.sends-in-Aad.ensures
+    (listed_extended Aad _ _ c.kind_of.ensures c.in-Aad.is refl)
 
-returns-6 : tie.Need-returns-6
+returns-in-Aes : tie.Need-returns-in-Aes
 unfolding choose messages first_in first_of codes_in codes_of
-returns-6 c =
-    let l = c.before.before in
-    let o = l.before in
-    let t = o.before.before in
-    let k = t.before.before in
-    as_well l.aes.ensures
-    (listed_extended Aes _ _ k.kind-of.ensures t.enum-told6.given.1 (rw o.offset-of4.ensures))
+returns-in-Aes c =
+    as_well c.aes.ensures
+    (listed_extended Aes _ _ c.kind_of.ensures c.in-Aes.is (rw c.offset_of-in-Aes.ensures))
 
-returns-7 : tie.Need-returns-7
+returns-in-Aep : tie.Need-returns-in-Aep
 unfolding choose messages first_in first_of codes_in codes_of
-returns-7 c =
-    let l = c.before in
-    let o = l.before in
-    let t = o.before.before in
-    let k = t.before.before in
-    let s = k.before.before in
-    let b = s.args.rec.now in
-    passed s.args.frame c.sends6.result
-    (stands _ unchanged b (stays b s.requires.0) l.aep.result l.aep.ensures) c.sends6.ensures
-    (listed_extended Aep _ _ k.kind-of.ensures t.enum-told7.given.1 (rw o.offset-of5.ensures))
+returns-in-Aep c =
+    let b = c.args.rec.now in
+    passed c.args.frame c.sends-in-Aep.result
+    (stands _ unchanged b (stays b c.requires.0) c.aep.result c.aep.ensures) c.sends-in-Aep.ensures
+    (listed_extended Aep _ _ c.kind_of.ensures c.in-Aep.is (rw c.offset_of-in-Aep.ensures))
 
-returns-8 : tie.Need-returns-8
+returns-in_default : tie.Need-returns-in_default
 unfolding messages first_in first_of codes_in codes_of
-returns-8 c =
-    let m = c.before in
-    let k = m.before in
-    let s = k.before.before in
-    let f = s.args.frame in
+returns-in_default c =
+    let f = c.args.frame in
     let e = not-true (is_own (kind_at f))
     (fitting_kind 0x400 0x600 (λ n. not (is_own n)) (rest 0x400 0x600 (extended_rules (device_of []) f (decoded f)) 0 43)
-    k.kind-of.result f k.kind-of.ensures s.requires.1 s.requires.2 m.match.keys8 tt) in
-    absurd (both_ways _ e s.requires.3)
+    c.kind_of.result f c.kind_of.ensures c.requires.1 c.requires.2 c.in_default.in_default-own.keys8 tt) in
+    absurd (both_ways _ e c.requires.3)
 
 pub own_spec : {M : Type 1} → statement M
 unfolding choose messages first_in first_of codes_in codes_of has_c1
@@ -126,41 +93,41 @@ own_spec =
     (tie.spec
     (λ c κs. search rules)
     (λ c. search rules)
-    (λ c κs. coded_as Lad _ c.before.before.before.kind-of.ensures c.before.enum_told.given.1 refl refl)
+    (λ c κs. coded_as Lad _ c.kind_of.ensures c.in-Lad.is refl refl)
     (λ c κs. search rules)
     (λ c κs. search rules)
     (λ c. search rules)
-    (λ c κs. coded_as Tad _ c.before.before.before.kind-of.ensures c.before.enum-told2.given.1 refl refl)
+    (λ c κs. coded_as Tad _ c.kind_of.ensures c.in-Tad.is refl refl)
     (λ c κs. search rules)
     (λ c κs. search rules)
     (λ c. search rules)
-    (λ c κs. coded_as Sad _ c.before.before.before.kind-of.ensures c.before.enum-told3.given.1 refl refl)
-    (λ c κs. search rules)
-    (λ c κs. search rules)
-    (λ c. search rules)
+    (λ c κs. coded_as Sad _ c.kind_of.ensures c.in-Sad.is refl refl)
     (λ c κs. search rules)
     (λ c κs. search rules)
     (λ c. search rules)
     (λ c κs. search rules)
+    (λ c κs. search rules)
     (λ c. search rules)
-    (λ c κs. coded_as Aes _ c.before.before.before.kind-of.ensures c.before.enum-told6.given.1 refl refl)
+    (λ c κs. search rules)
+    (λ c. search rules)
+    (λ c κs. coded_as Aes _ c.kind_of.ensures c.in-Aes.is refl refl)
     aes-requires
     (λ c. search rules)
-    (λ c κs. coded_as Aep _ c.before.before.before.kind-of.ensures c.before.enum-told7.given.1 refl refl)
+    (λ c κs. coded_as Aep _ c.kind_of.ensures c.in-Aep.is refl refl)
     (λ c κs. search rules)
     (λ c κs. search rules)
     (λ c κs. search rules)
     (λ c. search rules)
-    returns
+    returns-in-Lad
     (λ c. search rules)
-    returns-2
+    returns-in-Tad
     (λ c. search rules)
-    returns-3
+    returns-in-Sad
     (λ c. search rules)
-    returns-4
-    returns-5
+    returns-in-Aau
+    returns-in-Aad
     (λ c. search rules)
-    returns-6
+    returns-in-Aes
     (λ c. search rules)
-    returns-7
-    returns-8)
+    returns-in-Aep
+    returns-in_default)

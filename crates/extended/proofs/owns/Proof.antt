@@ -10,6 +10,5 @@ owns_spec =
     (tie.spec
     (λ c κs. search rules)
     (λ c κs. search rules)
-    (λ c. let i = c.before in let h = i.before in
-    rw (sym h.has-further.ensures ∙ i.if1.true) c.is-own.ensures)
-    (λ c. let h = c.before in rw (sym h.has-further.ensures ∙ c.if1.false)))
+    (λ c. rw (sym c.has_further.ensures ∙ c.if-has_further.true) c.is_own.ensures)
+    (λ c. rw (sym c.has_further.ensures ∙ c.if-has_further.false)))

@@ -10,30 +10,24 @@ use Rattle.extended.proofs.InPlace.{unchanged, by_flags, stands, stays}
 use Rattle.extended.proofs.sad.Statement.{statement}
 use Rattle.extended.proofs.sad.Tie as tie
 
+returns-then-address-rec : tie.Need-returns-then-address-rec
+unfolding sad device_of
+returns-then-address-rec c =
+    let b = c.args.rec.now in
+    let e = c.sad_talks.ensures ∙ ap (λ (x : Device). sad_talks x) c.sad_listens.ensures in
+    stands _ unchanged b (stays b c.requires) c.sad_talks.result (search (arms, e))
+
+returns-then-rec-ge-RECEIVED : tie.Need-returns-then-rec-ge-RECEIVED
+unfolding sad device_of
+returns-then-rec-ge-RECEIVED c =
+    let b = c.args.rec.now in
+    let e = ap (λ (x : Device). flagging x 0 0) (c.talking.ensures (device_of b)) in
+    stands _ (by_flags 0 0) b c.flag.ensures c.talking.result (search (arms, e))
+
 returns : tie.Need-returns
 unfolding sad device_of
 returns c =
-    let l = c.before.before in
-    let s = l.before.before.before.before.before in
-    let b = s.args.rec.now in
-    let e = c.sad-talks.ensures ∙ ap (λ (x : Device). sad_talks x) l.sad-listens.ensures in
-    stands _ unchanged b (stays b s.requires) c.sad-talks.result (search (arms, e))
-
-returns-2 : tie.Need-returns-2
-unfolding sad device_of
-returns-2 c =
-    let k = c.before.before.before in
-    let s = k.before.before.before.before.before.before.before in
-    let b = s.args.rec.now in
-    let e = ap (λ (x : Device). flagging x 0 0) (c.talking.ensures (device_of b)) in
-    stands _ (by_flags 0 0) b k.flag.ensures c.talking.result (search (arms, e))
-
-returns-3 : tie.Need-returns-3
-unfolding sad device_of
-returns-3 c =
-    let k = c.before.before in
-    let s = k.before.before.before.before.before.before.before in
-    stands _ (by_flags 0 0) s.args.rec.now k.flag2.ensures s.args.state (search arms)
+    stands _ (by_flags 0 0) c.args.rec.now c.flag-2.ensures c.args.state (search arms)
 
 pub sad_spec : {M : Type 1} → statement M
 sad_spec =
@@ -43,12 +37,12 @@ sad_spec =
     (λ c κs. search rules)
     (λ c κs. search rules)
     (λ c. search rules)
-    returns
+    returns-then-address-rec
     (λ c. search rules)
     (λ c κs. search rules)
     (λ c κs. search rules)
     (λ c. search rules)
-    returns-2
+    returns-then-rec-ge-RECEIVED
     (λ c κs. search rules)
     (λ c. search rules)
-    returns-3)
+    returns)

@@ -6,27 +6,21 @@ use Rattle.record.specs.Record.{device_of}
 use Rattle.extended.proofs.sad_listens.Statement.{statement}
 use Rattle.extended.proofs.sad_listens.Tie as tie
 
-returns : tie.Need-returns
+returns-then-has-2 : tie.Need-returns-then-has-2
 unfolding sad_listens device_of
-returns c =
-    let i = c.before in
-    let j = i.before.before in
-    let k = j.before.before in
-    let b = k.before.before.before.args.rec.now in
-    when_le _ _ k.if1.true
-    (when _ _ j.before.has.ensures j.if2.true
-    (when _ _ i.before.has2.ensures i.if3.true (c.roles.ensures (device_of b))))
+returns-then-has-2 c =
+    let b = c.args.rec.now in
+    when_le _ _ c.if-rec-ge-RECEIVED.true
+    (when _ _ c.has.ensures c.if-has.true
+    (when _ _ c.has-then-has.ensures c.if-has-2.true (c.roles.ensures (device_of b))))
 
-returns-2 : tie.Need-returns-2
+returns-then-has : tie.Need-returns-then-has
 unfolding sad_listens device_of
-returns-2 c =
-    let i = c.before in
-    let j = i.before.before in
-    let k = j.before.before in
-    let b = k.before.before.before.args.rec.now in
-    when_le _ _ k.if1.true
-    (when _ _ j.before.has.ensures j.if2.true
-    (unless _ _ i.before.has2.ensures i.if3.false (c.listening.ensures (device_of b))))
+returns-then-has c =
+    let b = c.args.rec.now in
+    when_le _ _ c.if-rec-ge-RECEIVED.true
+    (when _ _ c.has.ensures c.if-has.true
+    (unless _ _ c.has-then-has.ensures c.if-has-2.false (c.listening.ensures (device_of b))))
 
 pub sad_listens_spec : {M : Type 1} → statement M
 unfolding sad_listens device_of
@@ -37,8 +31,8 @@ sad_listens_spec =
     (λ c κs. search rules)
     (λ c κs. search rules)
     (λ c κs. search rules)
-    returns
+    returns-then-has-2
     (λ c κs. search rules)
-    returns-2
+    returns-then-has
     (λ c. search arms)
     (λ c. search arms))

@@ -11,30 +11,24 @@ use Rattle.extended.proofs.InPlace.{by_flags, stands}
 use Rattle.extended.proofs.tad.Statement.{statement}
 use Rattle.extended.proofs.tad.Tie as tie
 
+returns-then-talks : tie.Need-returns-then-talks
+unfolding extended_tad
+returns-then-talks c =
+    stands _ (by_flags 0 received) c.args.rec.now c.flag.ensures c.args.state (search arms)
+
+returns-then-address-state : tie.Need-returns-then-address-state
+unfolding extended_tad
+returns-then-address-state c =
+    let b = c.args.rec.now in
+    let e = ap (λ (x : Device). flagging x 0 0) (c.talking.ensures (device_of b)) in
+    stands _ (by_flags 0 0) b c.flag-then-address-state.ensures c.talking.result (search (arms, e))
+
 returns : tie.Need-returns
 unfolding extended_tad
 returns c =
-    let k = c.before.before in
-    let s = k.before.before.before.before.before.before.before.before in
-    stands _ (by_flags 0 received) s.args.rec.now k.flag.ensures s.args.state (search arms)
-
-returns-2 : tie.Need-returns-2
-unfolding extended_tad
-returns-2 c =
-    let k = c.before.before.before in
-    let s = k.before.before.before.before.before.before.before.before in
-    let b = s.args.rec.now in
-    let e = ap (λ (x : Device). flagging x 0 0) (c.talking.ensures (device_of b)) in
-    stands _ (by_flags 0 0) b k.flag2.ensures c.talking.result (search (arms, e))
-
-returns-3 : tie.Need-returns-3
-unfolding extended_tad
-returns-3 c =
-    let k = c.before.before.before in
-    let s = k.before.before.before.before.before in
-    let b = s.args.rec.now in
-    let e = ap (λ (x : Device). flagging x 0 0) (c.talking2.ensures (device_of b)) in
-    stands _ (by_flags 0 0) b k.flag3.ensures c.talking2.result (search (arms, e))
+    let b = c.args.rec.now in
+    let e = ap (λ (x : Device). flagging x 0 0) (c.talking-2.ensures (device_of b)) in
+    stands _ (by_flags 0 0) b c.flag-2.ensures c.talking-2.result (search (arms, e))
 
 pub tad_spec : {M : Type 1} → statement M
 tad_spec =
@@ -43,12 +37,12 @@ tad_spec =
     (λ c κs. search rules)
     (λ c κs. search rules)
     (λ c. search rules)
-    returns
+    returns-then-talks
     (λ c κs. search rules)
     (λ c κs. search rules)
     (λ c. search rules)
-    returns-2
+    returns-then-address-state
     (λ c κs. search rules)
     (λ c κs. search rules)
     (λ c. search rules)
-    returns-3)
+    returns)

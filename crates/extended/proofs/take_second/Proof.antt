@@ -8,8 +8,8 @@ use Rattle.extended.proofs.take_second.Statement.{statement}
 use Rattle.extended.proofs.take_second.Tie as tie
 
 -- each byte of a record is one
-byte : (c : tie.After-slice-known) (i : ℕ) → get_or c.before.args.rec.now i 0 < 256
-byte c i = (c.slice-known.given i).fits
+byte : (c : tie.After-slice_known-1) (i : ℕ) → get_or c.args.rec.now i 0 < 256
+byte c i = (c.slice_known-1.given i).fits
 
 pub take_second_spec : {M : Type 1} → statement M
 take_second_spec =
@@ -20,4 +20,4 @@ take_second_spec =
     (λ c. record { fits = omega (arith, byte c 20, byte c 21) })
     (λ c. search rules)
     (λ c. simp length-set)
-    (λ c. let s = c.before in second_written s.args.rec.now s.requires.0 s.args.address))
+    (λ c. second_written c.args.rec.now c.requires.0 c.args.address))

@@ -7,34 +7,32 @@ use borrow.Author.Rules.{rules}
 use Rattle.judge.proofs.judge.Statement.{statement}
 use Rattle.judge.proofs.judge.Tie as tie
 
-returns : tie.Need-returns
+returns-then-not-shape_right : tie.Need-returns-then-not-shape_right
 unfolding judge_with
-returns c = let a = c.before in simp (← a.shape-right.ensures, not-true a.shape-right.result c.if1.true)
+returns-then-not-shape_right c = simp (← c.shape_right.ensures, not-true c.shape_right.result c.if-not-shape_right.true-raw)
 
-contents-sound-requires : tie.Need-contents-sound-requires
-contents-sound-requires c κs = let a = c.before in is_shaped _
-    (sym a.shape-right.ensures ∙ not-false a.shape-right.result c.if1.false)
+contents_sound-requires : tie.Need-contents_sound-requires
+contents_sound-requires c κs = is_shaped _
+    (sym c.shape_right.ensures ∙ not-false c.shape_right.result c.if-not-shape_right.false-raw)
 
-returns-2 : tie.Need-returns-2
+returns-then-not-contents_sound : tie.Need-returns-then-not-contents_sound
 unfolding judge_with
-returns-2 c = let b = c.before in let e = b.before in let a = e.before in
-    simp (
-      ← a.shape-right.ensures,
-      not-false a.shape-right.result e.if1.false,
+returns-then-not-contents_sound c = simp (
+      ← c.shape_right.ensures,
+      not-false c.shape_right.result c.if-not-shape_right.false-raw,
       ←
-          b.contents-sound.ensures,
-      not-true b.contents-sound.result c.if2.true,
+          c.contents_sound.ensures,
+      not-true c.contents_sound.result c.if-not-contents_sound.true-raw,
     )
 
-returns-3 : tie.Need-returns-3
+returns : tie.Need-returns
 unfolding judge_with
-returns-3 c = let b = c.before in let e = b.before in let a = e.before in
-    simp (
-      ← a.shape-right.ensures,
-      not-false a.shape-right.result e.if1.false,
+returns c = simp (
+      ← c.shape_right.ensures,
+      not-false c.shape_right.result c.if-not-shape_right.false-raw,
       ←
-          b.contents-sound.ensures,
-      not-false b.contents-sound.result c.if2.false,
+          c.contents_sound.ensures,
+      not-false c.contents_sound.result c.if-not-contents_sound.false-raw,
     )
 
 pub judge_spec : {M : Type 1} → statement M
@@ -42,7 +40,7 @@ judge_spec =
     tie.close
     (tie.spec
     (λ c κs. search rules)
-    returns
-    contents-sound-requires
-    returns-2
-    returns-3)
+    returns-then-not-shape_right
+    contents_sound-requires
+    returns-then-not-contents_sound
+    returns)

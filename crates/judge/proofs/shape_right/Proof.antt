@@ -7,26 +7,26 @@ use borrow.Author.Rules.{rules}
 use Rattle.judge.proofs.shape_right.Statement.{statement}
 use Rattle.judge.proofs.shape_right.Tie as tie
 
+returns-then-area-eq0 : tie.Need-returns-then-area-eq0
+returns-then-area-eq0 c = sym (shaped_empty c.args.area.now c.if-area-eq0.true)
+
+cast_n : tie.Need-overflow_cast-n
+cast_n c = omega (arith, c.shared_slice_known-2-1.given 0)
+
+area_size-requires : tie.Need-area_size-requires
+area_size-requires c κs = omega (arith, c.shared_slice_known-2-1.given 0)
+
 returns : tie.Need-returns
-returns c = sym (shaped_empty c.before.before.args.area.now c.if1.true)
-
-cast_n : tie.Need-overflow-cast-n
-cast_n c = omega (arith, c.shared-slice-known2.given 0)
-
-area-size-requires : tie.Need-area-size-requires
-area-size-requires c κs = omega (arith, c.before.shared-slice-known2.given 0)
-
-returns-2 : tie.Need-returns-2
 unfolding shaped_with
-returns-2 c = rw (c.before.is-count.ensures, c.area-size.ensures)
+returns c = rw (c.is_count.ensures, c.area_size.ensures)
 
 pub shape_right_spec : {M : Type 1} → statement M
 shape_right_spec =
     tie.close
     (tie.spec
-    returns
+    returns-then-area-eq0
     (λ c. search rules)
     cast_n
     (λ c κs. search rules)
-    area-size-requires
-    returns-2)
+    area_size-requires
+    returns)

@@ -11,14 +11,11 @@ use Rattle.record.specs.Record.{device_of}
 use Rattle.ready.proofs.ready.Statement.{statement}
 use Rattle.ready.proofs.ready.Tie as tie
 
-returns-7 : tie.Need-returns-7
+returns-in_default : tie.Need-returns-in_default
 unfolding choose messages first_in first_of codes_in codes_of
-returns-7 c =
-    let m = c.before in
-    let k = m.before in
-    let s = k.before.before in
-    other 0x500 0x600 k.kind-of.result _ s.args.frame k.kind-of.ensures s.requires.1.first
-    s.requires.1.past m.match.keys7 tt (c.sends2.ensures (device_of s.args.rec.now))
+returns-in_default c =
+    other 0x500 0x600 c.kind_of.result _ c.args.frame c.kind_of.ensures c.requires.1.first
+    c.requires.1.past c.in_default.in_default-own.keys7 tt (c.sends-in_default.ensures (device_of c.args.rec.now))
 
 pub ready_spec : {M : Type 1} → statement M
 unfolding choose messages first_in first_of codes_in codes_of has_c1
@@ -38,21 +35,15 @@ ready_spec =
     (λ c κs. search rules)
     (λ c κs. search rules)
     (λ c. search rules)
-    (λ c κs. coded_as Aad _ c.before.before.kind-of.ensures c.enum-told6.given.1 refl refl)
+    (λ c κs. coded_as Aad _ c.kind_of.ensures c.in-Aad.is refl refl)
     (λ c κs. (search rules, search rules))
     (λ c κs. search rules)
-    (λ c. let t = c.before in
-    listed Sda _ _ t.before.before.kind-of.ensures t.enum_told.given.1 c.requested.ensures)
-    (λ c. let t = c.before in
-    listed Sst _ _ t.before.before.kind-of.ensures t.enum-told2.given.1 c.sst.ensures)
-    (λ c. let t = c.before in
-    listed Sdi _ _ t.before.before.kind-of.ensures t.enum-told3.given.1 c.requested2.ensures)
-    (λ c. let t = c.before in
-    listed Sai _ _ t.before.before.kind-of.ensures t.enum-told4.given.1 c.requested3.ensures)
-    (λ c. let t = c.before.before in
-    listed Nrd _ _ t.before.before.kind-of.ensures t.enum-told5.given.1
-    (search (arms, c.sends.ensures, c.before.nrd.ensures)))
-    (λ c. let o = c.before in let t = o.before in
-    listed Aad _ _ t.before.before.kind-of.ensures t.enum-told6.given.1
-    (rw (← o.offset-of.ensures) c.aad.ensures))
-    returns-7)
+    (λ c. listed Sda _ _ c.kind_of.ensures c.in-Sda.is c.requested.ensures)
+    (λ c. listed Sst _ _ c.kind_of.ensures c.in-Sst.is c.sst.ensures)
+    (λ c. listed Sdi _ _ c.kind_of.ensures c.in-Sdi.is c.requested-in-Sdi.ensures)
+    (λ c. listed Sai _ _ c.kind_of.ensures c.in-Sai.is c.requested-in-Sai.ensures)
+    (λ c. listed Nrd _ _ c.kind_of.ensures c.in-Nrd.is
+    (search (arms, c.sends.ensures, c.nrd.ensures)))
+    (λ c. listed Aad _ _ c.kind_of.ensures c.in-Aad.is
+    (rw (← c.offset_of.ensures) c.aad.ensures))
+    returns-in_default)

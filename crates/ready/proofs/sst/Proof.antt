@@ -15,9 +15,9 @@ sst_spec =
     (λ c κs. search rules)
     (λ c κs. search rules)
     (λ c κs. search rules)
-    (λ c. let d = device_of c.before.before.before.before.before.before.before.before.args.rec.now in
-    search (arms, c.continues.ensures, c.before.talking.ensures d, c.before.before.polls.ensures d))
+    (λ c. let d = device_of c.args.rec.now in
+    search (arms, c.continues.ensures, c.talking.ensures d, c.polls.ensures d))
     (λ c κs. search rules)
     (λ c. search (arms, c.sends.ensures))
     (λ c κs. search rules)
-    (λ c. search (arms, c.sends2.ensures)))
+    (λ c. search (arms, c.sends-2.ensures)))

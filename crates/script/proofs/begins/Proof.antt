@@ -8,57 +8,52 @@ use Rattle.script.proofs.Scripts.{ended, differs, agrees, passed}
 use Rattle.script.proofs.begins.Statement.{statement}
 use Rattle.script.proofs.begins.Tie as tie
 
-abbrev invariant-loop : tie.invariant-loop
-invariant-loop line word i₀ i = (i ≤ length word) × (begins word line ≡ begins (drop i word) (drop i line))
+abbrev invariant-loop-i : tie.invariant-loop-i
+invariant-loop-i line word i₀ i = (i ≤ length word) × (begins word line ≡ begins (drop i word) (drop i line))
 
-abbrev decreases-loop : tie.decreases-loop
-decreases-loop line word i₀ i = length word - i
+abbrev decreases-loop-i : tie.decreases-loop-i
+decreases-loop-i line word i₀ i = length word - i
 
-loop-holds : tie.Need-loop-init invariant-loop decreases-loop
+loop-holds : tie.Need-loop-i-init invariant-loop-i decreases-loop-i
 loop-holds c = (omega arith, refl)
 
-returns : tie.Need-returns invariant-loop decreases-loop
-returns c =
-    let l = c.before.before in
-    sym (l.loop.invariant.1 ∙ ended l.before.args.word.now l.before.args.line.now l.loop.i
-    c.before.loop-test.true c.if1.true)
+returns-then-i-line : tie.Need-returns-then-i-line invariant-loop-i decreases-loop-i
+returns-then-i-line c =
+    sym (c.loop-i.invariant.1 ∙ ended c.args.word.now c.args.line.now c.loop-i.i
+    c.loop-i-test.true c.if-i-line.true)
 
-returns-2 : tie.Need-returns-2 invariant-loop decreases-loop
-returns-2 c =
-    let t = c.before.before.before.before in
-    let l = t.before in
+returns-then-line-i : tie.Need-returns-then-line-i invariant-loop-i decreases-loop-i
+returns-then-line-i c =
     sym
-    (l.loop.invariant.1
-    ∙ differs l.before.args.word.now l.before.args.line.now l.loop.i t.loop-test.true
-    (omega arith) c.if2.true)
+    (c.loop-i.invariant.1
+    ∙ differs c.args.word.now c.args.line.now c.loop-i.i c.loop-i-test.true
+    (omega arith) c.if-line-i.true)
 
-loop-again : tie.Need-loop-preserved invariant-loop decreases-loop
+loop-again : tie.Need-loop-i-preserved invariant-loop-i decreases-loop-i
 loop-again c =
-    let t = c.before.before.before.before in
-    let l = t.before in (
+    (
       omega arith,
-      l.loop.invariant.1
-          ∙ agrees l.before.args.word.now l.before.args.line.now l.loop.i t.loop-test.true
-          (omega arith) c.if2.false,
+      c.loop-i.invariant.1
+          ∙ agrees c.args.word.now c.args.line.now c.loop-i.i c.loop-i-test.true
+          (omega arith) c.if-line-i.false,
     )
 
-returns-3 : tie.Need-returns-3 invariant-loop decreases-loop
-returns-3 c =
-    let l = c.before in
-    sym (l.loop.invariant.1 ∙ passed l.before.args.word.now l.before.args.line.now l.loop.i (omega arith))
+returns : tie.Need-returns invariant-loop-i decreases-loop-i
+returns c =
+    sym (c.loop-i.invariant.1 ∙ passed c.args.word.now c.args.line.now c.loop-i.i (omega arith))
 
 pub begins_spec : {M : Type 1} → statement M
 begins_spec =
     tie.close
     (tie.spec
-    invariant-loop
-    decreases-loop
+    invariant-loop-i
+    decreases-loop-i
     loop-holds
-    returns
+    returns-then-i-line
     (λ c. omega arith)
     (λ c. omega arith)
-    returns-2
+    returns-then-line-i
     (λ c. omega arith)
     (λ c. omega arith)
     loop-again
-    returns-3)
+    returns)

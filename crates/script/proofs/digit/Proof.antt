@@ -6,23 +6,23 @@ use Rattle.text.specs.Digits.{digit_of}
 use Rattle.script.proofs.digit.Statement.{statement}
 use Rattle.script.proofs.digit.Tie as tie
 
-sub_result : tie.Need-overflow-sub-result
-sub_result c = omega (arith, leb-true 48 c.before.args.b (left _ _ c.if1.true))
+sub_result : tie.Need-overflow_sub-result
+sub_result c = omega (arith, leb-true 48 c.args.b (left _ _ c.if-b.true))
+
+returns-then-b : tie.Need-returns-then-b
+unfolding digit_of
+returns-then-b c = rw c.if-b.true
+
+sub_result_2 : tie.Need-overflow_sub-result-then-b-2
+sub_result_2 c = omega (arith, leb-true 97 c.args.b (left _ _ c.if-b-2.true))
+
+returns-then-b-2 : tie.Need-returns-then-b-2
+unfolding digit_of
+returns-then-b-2 c = rw (c.if-b.false, c.if-b-2.true)
 
 returns : tie.Need-returns
 unfolding digit_of
-returns c = rw c.if1.true
-
-sub_result_2 : tie.Need-overflow-sub-result-2
-sub_result_2 c = omega (arith, leb-true 97 c.before.before.args.b (left _ _ c.if2.true))
-
-returns-2 : tie.Need-returns-2
-unfolding digit_of
-returns-2 c = rw (c.before.if1.false, c.if2.true)
-
-returns-3 : tie.Need-returns-3
-unfolding digit_of
-returns-3 c = rw (c.before.if1.false, c.if2.false)
+returns c = rw (c.if-b.false, c.if-b-2.false)
 
 pub digit_spec : {M : Type 1} → statement M
-digit_spec = tie.close (tie.spec sub_result returns sub_result_2 returns-2 returns-3)
+digit_spec = tie.close (tie.spec sub_result returns-then-b sub_result_2 returns-then-b-2 returns)

@@ -6,11 +6,7 @@ use Rattle.script.proofs.group_right.Tie as tie
 
 returns : tie.Need-returns
 returns c =
-    let d3 = c.before.before in
-    let d2 = d3.before.before in
-    let d1 = d2.before.before in
-    let s = d1.before.before.before.before in
-    group_is s.args.g.now d1.digit.ensures d2.digit2.ensures d3.digit3.ensures c.digit4.ensures
+    group_is c.args.g.now c.digit.ensures c.digit-2.ensures c.digit-3.ensures c.digit-4.ensures
 
 pub group_right_spec : {M : Type 1} → statement M
 group_right_spec =

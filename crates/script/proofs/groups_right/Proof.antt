@@ -8,56 +8,56 @@ use borrow.Author.Rules.{rules}
 use Rattle.script.proofs.groups_right.Statement.{statement}
 use Rattle.script.proofs.groups_right.Tie as tie
 
-abbrev invariant-loop : tie.invariant-loop
-invariant-loop groups n rest₀ left₀ rest left = Rest group_right group_size n groups left rest
+abbrev invariant-loop-left : tie.invariant-loop-left
+invariant-loop-left groups n rest₀ left₀ rest left = Rest group_right group_size n groups left rest
 
-abbrev decreases-loop : tie.decreases-loop
-decreases-loop groups n rest₀ left₀ rest left = left
+abbrev decreases-loop-left : tie.decreases-loop-left
+decreases-loop-left groups n rest₀ left₀ rest left = left
 
-loop-holds : tie.Need-loop-init invariant-loop decreases-loop
+loop-holds : tie.Need-loop-left-init invariant-loop-left decreases-loop-left
 loop-holds c = record { long = omega arith; same = refl }
 
-slice-aggregate-group-right : tie.Need-slice-aggregate-group-right invariant-loop decreases-loop
-slice-aggregate-group-right c = let l = c.before.before.loop in
+slice_bounds-group_right-end : tie.Need-slice_bounds-group_right-end invariant-loop-left decreases-loop-left
+slice_bounds-group_right-end c = let l = c.loop-left in
     sym (length-take-le group_size l.rest.now (omega (arith, l.invariant.long)))
 
-group-right-requires : tie.Need-group-right-requires invariant-loop decreases-loop
-group-right-requires c κs = let l = c.before.before.loop in
+group_right-requires : tie.Need-group_right-requires invariant-loop-left decreases-loop-left
+group_right-requires c κs = let l = c.loop-left in
     length-take-le group_size l.rest.now (omega (arith, l.invariant.long))
 
-returns : tie.Need-returns invariant-loop decreases-loop
-returns c = let l = c.before.before.before.before.loop in
-    fails group_right group_size _ _ l.left l.rest.now _ l.invariant (omega arith) c.before.group-right.ensures
-    c.if1.true
+returns-then-not-group_right : tie.Need-returns-then-not-group_right invariant-loop-left decreases-loop-left
+returns-then-not-group_right c = let l = c.loop-left in
+    fails group_right group_size _ _ l.left l.rest.now _ l.invariant (omega arith) c.group_right.ensures
+    c.if-not-group_right.true-raw
 
-sub_rest : tie.Need-overflow-sub-rest invariant-loop decreases-loop
-sub_rest c = let l = c.before.before.before.before.loop in omega (arith, l.invariant.long)
+sub_rest : tie.Need-slice_bounds-rest-count invariant-loop-left decreases-loop-left
+sub_rest c = let l = c.loop-left in omega (arith, l.invariant.long)
 
-part_rest_start : tie.Need-slice-bounds-rest-start invariant-loop decreases-loop
-part_rest_start c = let l = c.before.before.before.before.loop in omega (arith, l.invariant.long)
+part_rest_start : tie.Need-slice-bounds-rest-start invariant-loop-left decreases-loop-left
+part_rest_start c = let l = c.loop-left in omega (arith, l.invariant.long)
 
-loop-again : tie.Need-loop-preserved invariant-loop decreases-loop
-loop-again c = let l = c.before.before.before.before.before.loop in
+loop-again : tie.Need-loop-left-preserved invariant-loop-left decreases-loop-left
+loop-again c = let l = c.loop-left in
     next group_right group_size _ _ l.left l.rest.now _ l.invariant (omega arith)
-    c.before.before.group-right.ensures c.before.if1.false
+    c.group_right.ensures c.if-not-group_right.false-raw
 
-returns-2 : tie.Need-returns-2 invariant-loop decreases-loop
-returns-2 c = let l = c.before.loop in ends group_right group_size _ _ l.left l.rest.now l.invariant (omega arith)
+returns : tie.Need-returns invariant-loop-left decreases-loop-left
+returns c = let l = c.loop-left in ends group_right group_size _ _ l.left l.rest.now l.invariant (omega arith)
 
 pub groups_right_spec : {M : Type 1} → statement M
 groups_right_spec =
     tie.close
     (tie.spec
-    invariant-loop
-    decreases-loop
+    invariant-loop-left
+    decreases-loop-left
     loop-holds
-    slice-aggregate-group-right
-    group-right-requires
-    returns
+    slice_bounds-group_right-end
+    group_right-requires
+    returns-then-not-group_right
     sub_rest
     part_rest_start
     (λ c. search rules)
     (λ c. search rules)
     (λ c. search rules)
     loop-again
-    returns-2)
+    returns)

@@ -11,76 +11,68 @@ use Rattle.text.proofs.Splices.{nothing}
 use Rattle.script.proofs.items_in.Statement.{statement}
 use Rattle.script.proofs.items_in.Tie as tie
 
-abbrev invariant-loop : tie.invariant-loop
-invariant-loop groups n items₀ rest₀ left₀ at₀ items rest left at = Filling n groups items₀ left rest at items
+abbrev invariant-loop-left : tie.invariant-loop-left
+invariant-loop-left groups n items₀ rest₀ left₀ at₀ items rest left at = Filling n groups items₀ left rest at items
 
-abbrev decreases-loop : tie.decreases-loop
-decreases-loop groups n items₀ rest₀ left₀ at₀ items rest left at = left
+abbrev decreases-loop-left : tie.decreases-loop-left
+decreases-loop-left groups n items₀ rest₀ left₀ at₀ items rest left at = left
 
-loop-holds : tie.Need-loop-init invariant-loop decreases-loop
+loop-holds : tie.Need-loop-left-init invariant-loop-left decreases-loop-left
 loop-holds c =
-    let s = c.before.before in
     record {
       done = [];
-      enough = s.requires.0;
-      sound = s.requires.2;
+      enough = c.requires.0;
+      sound = c.requires.2;
       place = omega arith;
       same = refl;
       wrote = nothing _ 0;
       size = refl;
     }
 
-slice-aggregate-item-of : tie.Need-slice-aggregate-item-of invariant-loop decreases-loop
-slice-aggregate-item-of c =
-    let l = c.before.before.before.loop in
+slice_bounds-item_of-end : tie.Need-slice_bounds-item_of-end invariant-loop-left decreases-loop-left
+slice_bounds-item_of-end c =
+    let l = c.loop-left in
     sym (length-take-le group_size l.rest.now (omega (arith, l.invariant.enough)))
 
-item-of-requires : tie.Need-item-of-requires invariant-loop decreases-loop
-item-of-requires c κs =
-    let l = c.before.before.before in (
-      length-take-le group_size l.loop.rest.now (omega (arith, l.loop.invariant.enough)),
-      first _ _ _ l.loop.left l.loop.rest.now l.loop.at l.loop.items l.loop.invariant (omega arith),
+item_of-requires : tie.Need-item_of-requires invariant-loop-left decreases-loop-left
+item_of-requires c κs =
+    (
+      length-take-le group_size c.loop-left.rest.now (omega (arith, c.loop-left.invariant.enough)),
+      first _ _ _ c.loop-left.left c.loop-left.rest.now c.loop-left.at c.loop-left.items c.loop-left.invariant (omega arith),
     )
 
-put-requires : tie.Need-put-requires invariant-loop decreases-loop
-put-requires c κs =
-    let l = c.before.before.before.before.before in
-    let i = l.loop.invariant in
-    omega (arith, ap length c.before.item_of.ensures, i.place, i.size, l.before.before.before.requires.1)
+put-at-requires : tie.Need-put-at-requires invariant-loop-left decreases-loop-left
+put-at-requires c κs =
+    let i = c.loop-left.invariant in
+    omega (arith, ap length c.item_of.ensures, i.place, i.size, c.requires.1)
 
-loop-again : tie.Need-loop-preserved invariant-loop decreases-loop
+loop-again : tie.Need-loop-left-preserved invariant-loop-left decreases-loop-left
 loop-again c =
-    let p = c.before.before.before in
-    let i = p.before.before in
-    let l = i.before.before.before.before in
-    let s = l.before.before.before in
-    fill s.args.n s.args.groups.now s.args.items.now l.loop.left l.loop.rest.now l.loop.at
-    l.loop.items
-    p.put.new.0 p.put.result s.requires.1 l.loop.invariant (omega arith)
-    (rw i.item_of.ensures at p.put.ensures)
+    fill c.args.n c.args.groups.now c.args.items.now c.loop-left.left c.loop-left.rest.now c.loop-left.at
+    c.loop-left.items
+    c.put-at.new.out c.put-at.result c.requires.1 c.loop-left.invariant (omega arith)
+    (rw c.item_of.ensures at c.put-at.ensures)
 
-same_length : tie.Need-same-length invariant-loop decreases-loop
-same_length c = c.before.loop.invariant.size
+same_length : tie.Need-shape_of-items invariant-loop-left decreases-loop-left
+same_length c = c.loop-left.invariant.size
 
-returns : tie.Need-returns invariant-loop decreases-loop
+returns : tie.Need-returns invariant-loop-left decreases-loop-left
 returns c =
-    let l = c.before in
-    let s = l.before.before.before in
-    filled s.args.n s.args.groups.now s.args.items.now l.loop.left l.loop.rest.now l.loop.at
-    l.loop.items
-    l.loop.invariant (omega arith)
+    filled c.args.n c.args.groups.now c.args.items.now c.loop-left.left c.loop-left.rest.now c.loop-left.at
+    c.loop-left.items
+    c.loop-left.invariant (omega arith)
 
 pub items_in_spec : {M : Type 1} → statement M
 items_in_spec =
     tie.close
     (tie.spec
-    invariant-loop
-    decreases-loop
+    invariant-loop-left
+    decreases-loop-left
     loop-holds
-    slice-aggregate-item-of
-    item-of-requires
+    slice_bounds-item_of-end
+    item_of-requires
     (λ c. search rules)
-    put-requires
+    put-at-requires
     (λ c. search rules)
     (λ c. search rules)
     (λ c. search rules)

@@ -14,81 +14,71 @@ use Rattle.script.proofs.loop_in.Statement.{statement}
 use Rattle.script.proofs.loop_in.Tie as tie
 
 -- the word stands there
-word : (c : tie.Else1) → begins loop_word c.before.before.before.before.args.line.now ≡ true
-word c = sym c.before.begins.ensures ∙ not-false c.before.begins.result c.if1.false
+word : (c : tie.Else-not-begins) → begins loop_word c.args.line.now ≡ true
+word c = sym c.begins.ensures ∙ not-false c.begins.result c.if-not-begins.false-raw
+
+returns-then-not-begins : tie.Need-returns-then-not-begins
+returns-then-not-begins c =
+    sym (no_word c.args.line.now
+    (sym c.begins.ensures ∙ not-true c.begins.result c.if-not-begins.true-raw))
+
+sub_n : tie.Need-overflow_sub-n
+sub_n c = has_word loop_word c.args.line.now (word c)
+
+returns-then-line-n : tie.Need-returns-then-line-n
+returns-then-line-n c = sym (no_groups c.args.line.now c.if-line-n.true)
+
+sub_groups_right : tie.Need-slice_bounds-groups_right-count
+sub_groups_right c = omega (arith, c.if-line-n.false)
+
+part_start : tie.Need-slice_bounds-groups_right-start
+part_start c = omega (arith, c.if-line-n.false)
+
+groups_right-requires : tie.Need-groups_right-requires
+groups_right-requires c κs =
+    let line = c.args.line.now in
+    rw (rest_is 4 line, length-drop 4 line) (omega (arith, c.if-line-n.false))
+
+-- with the groups tested, as many as the length says
+tested : (c : tie.After-groups_right) →
+    c.groups_right.result ≡ all group_right (groups_in
+    c.args.line.now)
+tested c = rw rest_is at c.groups_right.ensures
+
+returns-then-not-groups_right : tie.Need-returns-then-not-groups_right
+returns-then-not-groups_right c =
+    sym (group_wrong c.args.line.now (word c.before.before.before.before) c.if-line-n.false
+    (sym (tested c.before) ∙ not-true c.groups_right.result c.if-not-groups_right.true-raw))
+
+returns-then-is_count : tie.Need-returns-then-is_count
+returns-then-is_count c =
+    sym
+    (groups_right c.args.line.now (word c.before.before.before.before.before.before) c.if-line-n.false
+    (sym (tested c.before.before.before) ∙ not-false c.groups_right.result c.if-not-groups_right.false-raw) true
+    (sym c.is_count.ensures ∙ c.if-is_count.true))
 
 returns : tie.Need-returns
 returns c =
-    let b = c.before in
-    sym (no_word b.before.before.before.args.line.now
-    (sym b.begins.ensures ∙ not-true b.begins.result c.if1.true))
-
-sub_n : tie.Need-overflow-sub-n
-sub_n c = has_word loop_word c.before.before.before.before.args.line.now (word c)
-
-returns-2 : tie.Need-returns-2
-returns-2 c = sym (no_groups c.before.before.before.before.before.args.line.now c.if2.true)
-
-sub_groups_right : tie.Need-overflow-sub-groups-right
-sub_groups_right c = omega (arith, c.if2.false)
-
-part_start : tie.Need-slice-bounds-groups-right-start
-part_start c = omega (arith, c.if2.false)
-
-groups-right-requires : tie.Need-groups-right-requires
-groups-right-requires c κs =
-    let line = c.before.before.before.before.before.before.args.line.now in
-    rw (rest_is 4 line, length-drop 4 line) (omega (arith, c.before.if2.false))
-
--- with the groups tested, as many as the length says
-tested : (c : tie.After-groups-right) →
-    c.groups_right.result ≡ all group_right (groups_in
-    c.before.before.before.before.before.before.before.args.line.now)
-tested c = rw rest_is at c.groups_right.ensures
-
-returns-3 : tie.Need-returns-3
-returns-3 c =
-    let g = c.before in
-    let i = g.before.before in
-    sym (group_wrong i.before.before.before.before.before.args.line.now (word i.before) i.if2.false
-    (sym (tested g) ∙ not-true g.groups_right.result c.if3.true))
-
-returns-4 : tie.Need-returns-4
-returns-4 c =
-    let k = c.before in
-    let g = k.before.before in
-    let i = g.before.before in
     sym
-    (groups_right i.before.before.before.before.before.args.line.now (word i.before) i.if2.false
-    (sym (tested g) ∙ not-false g.groups_right.result k.before.if3.false) true
-    (sym k.is-count.ensures ∙ c.if4.true))
+    (groups_right c.args.line.now (word c.before.before.before.before.before.before) c.if-line-n.false
+    (sym (tested c.before.before.before) ∙ not-false c.groups_right.result c.if-not-groups_right.false-raw) false
+    (sym c.is_count.ensures ∙ c.if-is_count.false))
 
-returns-5 : tie.Need-returns-5
-returns-5 c =
-    let k = c.before in
-    let g = k.before.before in
-    let i = g.before.before in
-    sym
-    (groups_right i.before.before.before.before.before.args.line.now (word i.before) i.if2.false
-    (sym (tested g) ∙ not-false g.groups_right.result k.before.if3.false) false
-    (sym k.is-count.ensures ∙ c.if4.false))
-
-pub loop-in-spec : {M : Type 1} → statement M
-loop-in-spec =
+pub loop_in_spec : {M : Type 1} → statement M
+loop_in_spec =
     tie.close
     (tie.spec
-    (λ c. search rules)
     (λ c κs. search rules)
-    returns
+    returns-then-not-begins
     sub_n
     (λ c. search rules)
     (λ c. search rules)
-    returns-2
+    returns-then-line-n
     sub_groups_right
     part_start
     (λ c. search rules)
-    groups-right-requires
-    returns-3
+    groups_right-requires
+    returns-then-not-groups_right
     (λ c κs. search rules)
-    returns-4
-    returns-5)
+    returns-then-is_count
+    returns)

@@ -15,20 +15,20 @@ behind : (c : tie.Start) →
     let a = c.args in (length (frames_of a.link.now) < depth) × (a.behind ≡ length (frames_of a.link.now))
 behind c = room_is (frames_of c.args.link.now) c.args.behind c.requires.1
 
-mul_at : tie.Need-overflow-mul-at
+mul_at : tie.Need-overflow_mul-at
 mul_at c = omega (arith, behind c)
 
-add_at : tie.Need-overflow-add-at
+add_at : tie.Need-overflow_add-at
 add_at c = omega (arith, behind c)
 
-add_link : tie.Need-overflow-add-link
+add_link : tie.Need-overflow_add-link
 add_link c = omega
     (arith, count_in c.args.link.now (λ i. (c.slice_known-1.given i).fits) c.requires.0, behind c.before)
 
 bounds-link-at : tie.Need-bounds-link-at
 bounds-link-at c = simp length-set (omega (arith, behind c.before, c.requires.0.long))
 
-add_link_2 : tie.Need-overflow-add-link-2
+add_link_2 : tie.Need-overflow_add-link-2
 add_link_2 c = omega (arith, behind c.before)
 
 bounds-link-at-2 : tie.Need-bounds-link-at-2

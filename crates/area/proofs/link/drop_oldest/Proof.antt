@@ -9,7 +9,7 @@ use borrow.Author.Rules.{rules}
 use Rattle.area.proofs.link.drop_oldest.Statement.{statement}
 use Rattle.area.proofs.link.drop_oldest.Tie as tie
 
-sub_t5 : tie.Need-overflow-sub-t5
+sub_t5 : tie.Need-overflow_sub-rest
 sub_t5 c = omega
     (arith, count_in c.args.link.now (λ i. (c.slice_known-1.given i).fits) c.requires.0, c.requires.1)
 

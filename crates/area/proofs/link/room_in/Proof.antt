@@ -6,7 +6,7 @@ use borrow.Author.Rules.{rules}
 use Rattle.area.proofs.link.room_in.Statement.{statement}
 use Rattle.area.proofs.link.room_in.Tie as tie
 
-cast_n : tie.Need-overflow-cast-n
+cast_n : tie.Need-overflow_cast-n
 cast_n c = omega (arith, c.shared_slice_known-1.given 0)
 
 returns-then-n-lt-DEPTH : tie.Need-returns-then-n-lt-DEPTH

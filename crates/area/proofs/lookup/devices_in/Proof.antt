@@ -7,7 +7,7 @@ use Rattle.area.proofs.lookup.devices_in.Tie as tie
 bounds-area-0 : tie.Need-bounds-area-0
 bounds-area-0 c = omega (arith, sized c.args.area.now c.requires)
 
-cast_result : tie.Need-overflow-cast-result
+cast_result : tie.Need-overflow_cast-result
 cast_result c = omega (arith, sized c.args.area.now c.requires)
 
 returns : tie.Need-returns

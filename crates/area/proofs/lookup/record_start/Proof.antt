@@ -4,10 +4,10 @@ use Rattle.area.proofs.Areas.{sized}
 use Rattle.area.proofs.lookup.record_start.Statement.{statement}
 use Rattle.area.proofs.lookup.record_start.Tie as tie
 
-mul_result : tie.Need-overflow-mul-result
+mul_result : tie.Need-overflow_mul-result
 mul_result c = omega (arith, sized c.args.area.now c.requires.judged, c.requires.there)
 
-add_result : tie.Need-overflow-add-result
+add_result : tie.Need-overflow_add-result
 add_result c = omega (arith, sized c.args.area.now c.requires.judged, c.requires.there)
 
 returns : tie.Need-returns

@@ -9,11 +9,11 @@ use Rattle.judge.proofs.contents.contents_sound.Tie as tie
 
 returns : tie.Need-returns
 unfolding sound
-returns c = let r = c.before.before in let h = r.before.before in let a =
-    h.before.before.before.args.area.now in
+returns c = let a =
+    c.args.area.now in
     simp (
-      h.header-sound.ensures,
-      r.records-sound.ensures,
+      c.header_sound.ensures,
+      c.records_sound.ensures,
       c.links_sound.ensures,
       rest_is header_size a,
       rest_is

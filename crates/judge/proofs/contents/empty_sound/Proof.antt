@@ -7,13 +7,12 @@ use Rattle.judge.proofs.contents.empty_sound.Tie as tie
 
 returns : tie.Need-returns
 unfolding sound_link sound_slot
-returns c = let c3 = c.before in let c2 = c3.before in let c1 = c2.before in
-    simp (
-      c1.before.before.before.requires.1,
-      c1.word_at.ensures,
-      c2.word-at2.ensures,
-      c3.word-at3.ensures,
-      c.word-at4.ensures,
+returns c = simp (
+      c.requires.1,
+      c.word_at.ensures,
+      c.word_at-2.ensures,
+      c.word_at-3.ensures,
+      c.word_at-4.ensures,
       and-true,
     )
 

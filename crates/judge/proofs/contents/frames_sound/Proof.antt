@@ -7,16 +7,15 @@ use Rattle.judge.proofs.contents.frames_sound.Tie as tie
 
 returns : tie.Need-returns
 unfolding sound_link
-returns c = let c3 = c.before.before in let c2 = c3.before.before in let c1 = c2.before.before in
-    simp (
-      c1.slot_sound.ensures,
-      c2.slot-sound2.ensures,
-      c3.slot-sound3.ensures,
-      c.slot-sound4.ensures,
-      c1.before.word_at.ensures,
-      c2.before.word-at2.ensures,
-      c3.before.word-at3.ensures,
-      c.before.word-at4.ensures,
+returns c = simp (
+      c.slot_sound.ensures,
+      c.slot_sound-2.ensures,
+      c.slot_sound-3.ensures,
+      c.slot_sound-4.ensures,
+      c.word_at.ensures,
+      c.word_at-2.ensures,
+      c.word_at-3.ensures,
+      c.word_at-4.ensures,
       and-true,
     )
 

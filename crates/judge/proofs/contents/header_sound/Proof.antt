@@ -7,7 +7,7 @@ use Rattle.judge.proofs.contents.header_sound.Tie as tie
 
 returns : tie.Need-returns
 unfolding zeros bytes_from
-returns c = rw c.rest-zero.ensures
+returns c = rw c.rest_zero.ensures
 
 pub header_sound_spec : {M : Type 1} → statement M
 header_sound_spec =

@@ -9,56 +9,56 @@ use borrow.Author.Rules.{rules}
 use Rattle.judge.proofs.contents.records_sound.Statement.{statement}
 use Rattle.judge.proofs.contents.records_sound.Tie as tie
 
-abbrev invariant-loop : tie.invariant-loop
-invariant-loop records n rest₀ left₀ rest left = Rest sound_record record_size n records left rest
+abbrev invariant-loop-left : tie.invariant-loop-left
+invariant-loop-left records n rest₀ left₀ rest left = Rest sound_record record_size n records left rest
 
-abbrev decreases-loop : tie.decreases-loop
-decreases-loop records n rest₀ left₀ rest left = left
+abbrev decreases-loop-left : tie.decreases-loop-left
+decreases-loop-left records n rest₀ left₀ rest left = left
 
-loop-holds : tie.Need-loop-init invariant-loop decreases-loop
+loop-holds : tie.Need-loop-left-init invariant-loop-left decreases-loop-left
 loop-holds c = record { long = omega arith; same = refl }
 
-slice-aggregate-record-sound : tie.Need-slice-aggregate-record-sound invariant-loop decreases-loop
-slice-aggregate-record-sound c = let l = c.before.before.loop in sym
+slice_bounds-record_sound-end : tie.Need-slice_bounds-record_sound-end invariant-loop-left decreases-loop-left
+slice_bounds-record_sound-end c = let l = c.loop-left in sym
     (length-take-le record_size l.rest.now (omega (arith, l.invariant.long)))
 
-record-sound-requires : tie.Need-record-sound-requires invariant-loop decreases-loop
-record-sound-requires c κs = let l = c.before.before.loop in length-take-le record_size l.rest.now
+record_sound-requires : tie.Need-record_sound-requires invariant-loop-left decreases-loop-left
+record_sound-requires c κs = let l = c.loop-left in length-take-le record_size l.rest.now
     (omega (arith, l.invariant.long))
 
-returns : tie.Need-returns invariant-loop decreases-loop
-returns c = let l = c.before.before.before.before.loop in
+returns-then-not-record_sound : tie.Need-returns-then-not-record_sound invariant-loop-left decreases-loop-left
+returns-then-not-record_sound c = let l = c.loop-left in
     fails sound_record record_size _ _ l.left l.rest.now _ l.invariant (omega arith)
-    c.before.record_sound.ensures c.if1.true
+    c.record_sound.ensures c.if-not-record_sound.true-raw
 
-sub_rest : tie.Need-overflow-sub-rest invariant-loop decreases-loop
-sub_rest c = let l = c.before.before.before.before.loop in omega (arith, l.invariant.long)
+sub_rest : tie.Need-slice_bounds-rest-count invariant-loop-left decreases-loop-left
+sub_rest c = let l = c.loop-left in omega (arith, l.invariant.long)
 
-part_rest_start : tie.Need-slice-bounds-rest-start invariant-loop decreases-loop
-part_rest_start c = let l = c.before.before.before.before.loop in omega (arith, l.invariant.long)
+part_rest_start : tie.Need-slice_bounds-rest-start invariant-loop-left decreases-loop-left
+part_rest_start c = let l = c.loop-left in omega (arith, l.invariant.long)
 
-loop-again : tie.Need-loop-preserved invariant-loop decreases-loop
-loop-again c = let l = c.before.before.before.before.before.loop in
+loop-again : tie.Need-loop-left-preserved invariant-loop-left decreases-loop-left
+loop-again c = let l = c.loop-left in
     next sound_record record_size _ _ l.left l.rest.now _ l.invariant (omega arith)
-    c.before.before.record_sound.ensures c.before.if1.false
+    c.record_sound.ensures c.if-not-record_sound.false-raw
 
-returns-2 : tie.Need-returns-2 invariant-loop decreases-loop
-returns-2 c = let l = c.before.loop in ends sound_record record_size _ _ l.left l.rest.now l.invariant (omega arith)
+returns : tie.Need-returns invariant-loop-left decreases-loop-left
+returns c = let l = c.loop-left in ends sound_record record_size _ _ l.left l.rest.now l.invariant (omega arith)
 
 pub records_sound_spec : {M : Type 1} → statement M
 records_sound_spec =
     tie.close
     (tie.spec
-    invariant-loop
-    decreases-loop
+    invariant-loop-left
+    decreases-loop-left
     loop-holds
-    slice-aggregate-record-sound
-    record-sound-requires
-    returns
+    slice_bounds-record_sound-end
+    record_sound-requires
+    returns-then-not-record_sound
     sub_rest
     part_rest_start
     (λ c. search rules)
     (λ c. search rules)
     (λ c. search rules)
     loop-again
-    returns-2)
+    returns)
