@@ -7,10 +7,9 @@ DESTDIR ?=
 # The shell reads these itself, so that a script's name may have spaces.
 export SCRIPT PREFIX DESTDIR
 
-.PHONY: help list bus lib install uninstall gate
+.PHONY: help list lib install uninstall gate
 help:
 	@echo "make list [SCRIPT=file]                run a script of frames and list what the loop does"
-	@echo "make bus                               build bus_list, for command bytes of the parallel bus, and the lister"
 	@echo "make lib                               build target/staticlib/libpil.a, for benches in C"
 	@echo "make install [PREFIX=..] [DESTDIR=..]  install libpil.a, its headers and pil.pc ($(PREFIX))"
 	@echo "make uninstall [PREFIX=..] [DESTDIR=..]"
@@ -21,10 +20,6 @@ list:
 	@host/tools.sh run
 	@$(MAKE) -s -C host lister
 	@host/list.sh target/bin/pil_list "$$SCRIPT" $(RUN)
-
-bus:
-	@host/tools.sh run
-	@$(MAKE) -s -C host lister bus_lister
 
 # The library needs no compiler, but the bench that links it does.
 lib:

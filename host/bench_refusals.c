@@ -47,9 +47,7 @@ int main(void)
 {
     const unsigned idy = pil_encode(PIL_KIND_IDY, 0, 0).frame, frames[PIL_LINK_DEPTH] = {
         pil_encode(PIL_KIND_TAD, METER_ADDRESS, 0).frame, pil_encode(PIL_KIND_SDA, 0, 0).frame, idy, idy};
-    const uint8_t script[] = {0x40 + METER_ADDRESS, 0x18};
     uint8_t items[PIL_ITEMS_LENGTH(DEVICES)] = {0}, *lent = loop;
-    uint16_t room[PIL_IMPORTED_LENGTH(sizeof script)];
 
     items[PIL_ITEM_AT(METER) + PIL_ITEM_ABILITIES] = PIL_ABILITY_DATA;
     items[PIL_ITEM_AT(METER) + PIL_ITEM_FIXED] = METER_ADDRESS;
@@ -75,8 +73,6 @@ int main(void)
     accepted(pil_drain(loop, sizeof loop, pil_owed(loop, sizeof loop).hops).refusal, "drain"); /* SDA: a talk begins */
     refused(pil_load_end(loop, sizeof loop, METER, buffer, READING), PIL_BUSY, "loaded the meter during its talk");
     refused(pil_open(loop, sizeof loop, copy, sizeof copy), PIL_BAD_SAVE, "opened a copy of the area, not its save");
-    refused(pil_import(script, sizeof script, room, PIL_IMPORTED_LENGTH(sizeof script)).refusal, PIL_NO_MATCH,
-            "imported a serial poll of the parallel bus, 18");
     damaged(PIL_RECORD_AT(METER) + PIL_RECORD_LISTENER, PIL_UNSOUND, "wrote over a byte of the meter's record");
     damaged(PIL_HEADER_DEVICES, PIL_SHAPE, "wrote over byte 0, the number of devices");
     printf("%u refused calls, and after each the area was the same bytes\n", refused_calls);

@@ -25,17 +25,14 @@ struct calls {
     struct pil_decoded (*decode)(uint64_t);
     struct pil_encoded (*encode)(uint64_t, uint64_t, uint64_t);
     struct pil_polled (*poll_count)(uint64_t);
-    struct pil_matched (*import)(const uint8_t *, size_t, uint16_t *, size_t);
-    struct pil_matched (*export)(const uint16_t *, size_t, uint8_t *, size_t);
 };
 
 static const struct calls both[2] = {
     {"pil", pil_set_up, pil_put, pil_hop, pil_take, pil_load, pil_load_end, pil_status, pil_wish, pil_key,
-     pil_poll_status, pil_drain, pil_owed, pil_walk, pil_save, pil_open, pil_decode, pil_encode, pil_poll_count,
-     pil_import, pil_export},
+     pil_poll_status, pil_drain, pil_owed, pil_walk, pil_save, pil_open, pil_decode, pil_encode, pil_poll_count},
     {"model", model_set_up, model_put, model_hop, model_take, model_load, model_load_end, model_status, model_wish,
      model_key, model_poll_status, model_drain, model_owed, model_walk, model_save, model_open, model_decode,
-     model_encode, model_poll_count, model_import, model_export},
+     model_encode, model_poll_count},
 };
 
 #endif

@@ -575,26 +575,3 @@ void chance_sound_area(uint8_t *area, unsigned n)
         }
     }
 }
-
-/* Bytes of the parallel bus. */
-
-/* Each single one, and the first and last of each range, as often as all others. */
-unsigned chance_matched_byte(void)
-{
-    static const uint8_t bytes[] = {0x01, 0x04, 0x08, 0x11, 0x14, 0x15, 0x20, 0x3e, 0x3f, 0x40, 0x5e, 0x5f, 0x60, 0x7e};
-
-    return one_in(2) ? bytes[below(sizeof bytes)] : 0x20 + below(0x7e - 0x20 + 1);
-}
-
-/* What means other things on the bus, the ends, what stands beside a right byte, and right ones with bit 8 set. */
-unsigned chance_unmatched_byte(void)
-{
-    static const uint8_t others[] = {0x05, 0x09, 0x18, 0x19, 0x00, 0x7f};
-    static const uint8_t beside[] = {0x02, 0x03, 0x06, 0x07, 0x0a, 0x10, 0x12, 0x13, 0x16, 0x1f, 0x80, 0xff};
-
-    switch (below(5)) {
-    case 0: return 0x80 + (one_in(2) ? chance_matched_byte() : below(0x80));
-    case 1: return beside[below(sizeof beside)];
-    default: return others[below(sizeof others)];
-    }
-}

@@ -41,8 +41,5 @@ enum { SCRIPTS = 8, STEPS = 4 };
 unsigned chance_script_frame(const uint8_t *record, unsigned script, unsigned step);
 /* A frame for link 0: often the frame taken last, come round, and otherwise what suits the devices' states. */
 unsigned chance_frame(const uint8_t *area, unsigned taken);
-/* A byte of the parallel bus that has a command on the loop (02, m), and one that has none. */
-unsigned chance_matched_byte(void);
-unsigned chance_unmatched_byte(void);
 
 #endif

@@ -6,7 +6,6 @@
 #include "lent.h"
 #include "order.h"
 #include "polls.h"
-#include "rows.h"
 #include "spoil.h"
 #include "walks.h"
 
@@ -35,8 +34,8 @@ enum {
     DEFAULT_CALLS = 1300000,
     FULL_RUN = 1000000, /* calls from which on the counts below are demanded */
     LEAST = 100, /* how often each refusal must be given, and bytes come back, messages, hops owed, loads, ends of data,
-                    events, set-ups, saves, openings, poll statuses, counts of polls, variants of devices, walks,
-                    imports and exports be met in each way */
+                    events, set-ups, saves, openings, poll statuses, counts of polls, variants of devices and walks be
+                    met in each way */
     LEAST_MOVES = 10, /* how often each message must come to a device in each state of remote and local, of polls and of
                          extended addresses, each IDY meet each answer, each event come to a sender, and each number of
                          ones be counted */
@@ -44,7 +43,7 @@ enum {
     MOST_OWED = 2 * PIL_MOST_DEVICES * (PIL_MOST_DEVICES + 1), /* hops */
     FORMER_MOST = 15, /* devices of the longest loop before 02, j */
     KEPT = 8,    /* saves that are kept for later */
-    REFUSALS = PIL_NO_MATCH + 1,
+    REFUSALS = PIL_BAD_SAVE + 1,
     TALKERS = PIL_TALKER_ACCESSORY + 1,
     REMOTES = PIL_REMOTE_LOCKED + 1,
     STANDINGS = 2 * REMOTES, /* states of remote and local, while not enabled and while enabled */
@@ -156,12 +155,12 @@ enum size { FORMER, MORE, MOST, MORE_OPENED, TOO_MANY, LOW_BYTE_RIGHT, SIZES };
 /* Those from WALK on are not lent the area: a walk has a copy of its first part. */
 enum which {
     SET_UP, PUT, HOP, TAKE, LOAD, LOAD_END, STATUS, WISH, KEY, POLL_STATUS, DRAIN, OWED, SAVE, OPEN, WALK, DECODE,
-    ENCODE, POLL_COUNT, IMPORT, EXPORT, WHICH
+    ENCODE, POLL_COUNT, WHICH
 };
 
 static const char *const names[WHICH] = {"set_up", "put", "hop", "take", "load", "load_end", "status", "wish", "key",
                                          "poll_status", "drain", "owed", "save", "open", "walk", "decode", "encode",
-                                         "poll_count", "import", "export"};
+                                         "poll_count"};
 
 /* A call with its arguments; the bytes of set_up, load, load_end and open stand in input. */
 struct call {
@@ -173,12 +172,11 @@ struct call {
     size_t input_len;
     size_t saved_len; /* of the output of save */
     struct lent lent; /* to a walk */
-    struct row row;   /* to an import or export */
 };
 
 /* Every field that any call answers. */
 struct answer {
-    uint64_t refusal, frame, handed, byte, end, event, hops, reason, device, kind, offset, c1, ones, lowest, place;
+    uint64_t refusal, frame, handed, byte, end, event, hops, reason, device, kind, offset, c1, ones, lowest;
 };
 
 static uint8_t rooms[2][ROOM], before[ROOM];
@@ -282,11 +280,6 @@ static struct answer polled_answer(struct pil_polled p)
     return (struct answer){.refusal = p.refusal, .ones = p.ones, .lowest = p.lowest};
 }
 
-static struct answer matched_answer(struct pil_matched m)
-{
-    return (struct answer){.refusal = m.refusal, .place = m.place};
-}
-
 static struct answer refusal_answer(uint8_t refusal)
 {
     return (struct answer){.refusal = refusal};
@@ -315,8 +308,6 @@ static struct answer make(int side, const struct call *c)
     case WALK: return walked_answer(walk_on(side, &c->lent, c->number));
     case DECODE: return decoded_answer(of->decode(c->number));
     case POLL_COUNT: return polled_answer(of->poll_count(c->number));
-    case IMPORT:
-    case EXPORT: return matched_answer(match_on(side, &c->row));
     default: return encoded_answer(of->encode(c->number, c->second, c->third));
     }
 }
@@ -327,9 +318,9 @@ static void print_answer(int side, const struct answer *a)
 {
     printf("  %-5s answers refusal %" PRIu64 " frame %03" PRIx64 " handed %" PRIu64 " byte %02" PRIx64
            " end %" PRIu64 " event %" PRIu64 " hops %" PRIu64 " reason %" PRIu64 " device %" PRIu64 " kind %" PRIu64
-           " offset %" PRIu64 " C1 %" PRIu64 " ones %" PRIu64 " lowest %" PRIu64 " place %" PRIu64 "\n",
+           " offset %" PRIu64 " C1 %" PRIu64 " ones %" PRIu64 " lowest %" PRIu64 "\n",
            both[side].name, a->refusal, a->frame, a->handed, a->byte, a->end, a->event, a->hops, a->reason, a->device,
-           a->kind, a->offset, a->c1, a->ones, a->lowest, a->place);
+           a->kind, a->offset, a->c1, a->ones, a->lowest);
 }
 
 static void print_bytes(const char *what, const uint8_t *bytes, size_t length)
@@ -344,14 +335,8 @@ static void print_call(const char *how, const struct call *c)
 {
     printf("difference at call %" PRIu64 " of seed %" PRIu64 ": %s\n", made, seed, how);
     printf("  %s, area length %zu, number %" PRIu64 ", second %" PRIu64 ", third %" PRIu64 ", input length %zu, output "
-           "length %zu, lengths of records %zu and told %zu, row of %zu and room for %zu\n", names[c->which],
-           c->area_len, c->number, c->second, c->third, c->input_len, c->saved_len, c->lent.records_len,
-           c->lent.told_len, c->row.length, c->row.room);
-}
-
-static int is_of_row(const struct call *c)
-{
-    return c->which == IMPORT || c->which == EXPORT;
+           "length %zu, lengths of records %zu and told %zu\n", names[c->which], c->area_len, c->number, c->second,
+           c->third, c->input_len, c->saved_len, c->lent.records_len, c->lent.told_len);
 }
 
 static _Noreturn void differs(const char *how, const struct call *c, const struct answer answers[2])
@@ -367,8 +352,6 @@ static _Noreturn void differs(const char *how, const struct call *c, const struc
     }
     if (c->which == WALK)
         print_walk();
-    if (is_of_row(c))
-        print_row(&c->row);
     print_bytes("area before", before + GUARD, c->area_len < ROOM - 2 * GUARD ? c->area_len : ROOM - 2 * GUARD);
     print_bytes("input", input_before, c->input_len < INPUT_ROOM ? c->input_len : INPUT_ROOM);
     printf("  repeat: compare %" PRIu64 " %" PRIu64 "\n", seed, made);
@@ -710,11 +693,6 @@ static void count_drain(const struct call *c, const struct answer *a)
         event_stops[(a->hops == c->number ? CLEAR_SPENT : CLEAR_LEFT) + (a->byte == PIL_EVENT_TRIGGER)]++;
 }
 
-static struct pil_matched matched(const struct answer *a)
-{
-    return (struct pil_matched){a->place, (uint8_t)a->refusal};
-}
-
 static void count_answer(const struct call *c, const struct answer *a)
 {
     calls_of[c->which]++;
@@ -741,8 +719,6 @@ static void count_answer(const struct call *c, const struct answer *a)
         savings[saving(c, a)]++;
     if (c->which == WALK)
         count_walk(&c->lent, c->number, (uint8_t)a->refusal, before + GUARD);
-    if (is_of_row(c))
-        count_row(&c->row, matched(a));
 }
 
 /* Owed, save and a refused call do not alter the area, an accepted one nothing beyond it, and only an accepted save its
@@ -966,27 +942,6 @@ static void keep(size_t length)
     k->history = history_now;
 }
 
-/* What else than the area the sides are lent. */
-static void lend(const struct call *c)
-{
-    if (c->which == SAVE)
-        lend_output();
-    if (c->which == WALK)
-        lend_walk(area_of(PIL));
-    if (is_of_row(c))
-        lend_room(&c->row);
-}
-
-/* What differs of it after the call, or libpil broke that shows without the model; else NULL. */
-static const char *lent_differs(const struct call *c, const struct answer *a)
-{
-    if (c->which == SAVE && memcmp(saved[PIL], saved[MODEL], SAVED_ROOM) != 0)
-        return "the saves";
-    if (c->which == WALK)
-        return walk_differs(&c->lent, (uint8_t)a->refusal);
-    return is_of_row(c) ? row_differs(&c->row, matched(a)) : NULL;
-}
-
 static struct answer compare_call(const struct call *c)
 {
     struct answer answers[2];
@@ -994,7 +949,10 @@ static struct answer compare_call(const struct call *c)
     made++;
     memcpy(before, rooms[PIL], ROOM);
     memcpy(input_before, input, INPUT_ROOM);
-    lend(c);
+    if (c->which == SAVE)
+        lend_output();
+    if (c->which == WALK)
+        lend_walk(area_of(PIL));
     under_way = c;
     for (int side = PIL; side <= MODEL; side++)
         answers[side] = make(side, c);
@@ -1002,8 +960,10 @@ static struct answer compare_call(const struct call *c)
         differs("the answers", c, answers);
     if (memcmp(rooms[PIL], rooms[MODEL], ROOM) != 0)
         differs("the areas", c, answers);
-    if (lent_differs(c, &answers[PIL]))
-        differs(lent_differs(c, &answers[PIL]), c, answers);
+    if (c->which == SAVE && memcmp(saved[PIL], saved[MODEL], SAVED_ROOM) != 0)
+        differs("the saves", c, answers);
+    if (c->which == WALK && walk_differs(&c->lent, (uint8_t)answers[PIL].refusal))
+        differs(walk_differs(&c->lent, (uint8_t)answers[PIL].refusal), c, answers);
     if (!only_lent_bytes_altered(c, &answers[PIL]))
         differs("bytes altered that may not be", c, answers);
     if (memcmp(input, input_before, INPUT_ROOM) != 0)
@@ -1513,20 +1473,6 @@ static void refused_walk(void)
     }
 }
 
-/* Scripts from the parallel bus. */
-
-static struct call row_call(struct row r)
-{
-    return (struct call){.which = r.way == IMPORTING ? IMPORT : EXPORT, .row = r};
-}
-
-static void match_some(void)
-{
-    struct call c = row_call(chance_row(one_in(3) ? IMPORTING : EXPORTING));
-
-    compare_call(&c);
-}
-
 /* Saves opened. */
 
 /* An area to open a save in: as it is, or with any bytes. */
@@ -1957,7 +1903,6 @@ static void history(void)
         case 7: open_some(); break;
         case 8: pace == FILLING ? go_on() : address_some(); break; /* links are left to fill, here and below */
         case 9: pace == FILLING ? go_on() : refused_walk(); break;
-        case 10: pace == FILLING ? go_on() : match_some(); break;
         default: go_on();
         }
     }
@@ -2600,82 +2545,6 @@ static int compare_walks(void)
     return all;
 }
 
-/* Scripts from the parallel bus (02, m): every byte and every number at each place of short rows, and long rows. */
-
-enum { SHORT_ROWS = 2, BYTES_WITH_COMMAND = 6 + (0x7e - 0x20 + 1), NUMBERS = UINT16_MAX + 1 };
-
-/* A row of which refusal and place are known. */
-static void compare_row(struct row r, uint64_t refusal, uint64_t place)
-{
-    struct call c = row_call(r);
-    struct answer a = compare_call(&c);
-
-    if (a.refusal != refusal || a.place != place)
-        breaks("not imported or exported, or refused, as it must be", &c, &a);
-}
-
-/* Every element below the end, in that place of a right row of so many bytes or pairs; gives how many were accepted. */
-static uint64_t compare_elements(enum way way, size_t bytes, size_t place, unsigned end)
-{
-    uint64_t accepted = 0;
-
-    for (unsigned element = 0; element < end; element++) {
-        struct row r = right_row(way, bytes);
-        struct call c = row_call(r);
-        struct answer a;
-
-        set_element(&r, place, element);
-        a = compare_call(&c);
-        if (a.refusal != PIL_ACCEPTED && (a.refusal != PIL_NO_MATCH || a.place != place))
-            breaks("a wrong element is not refused with 11 at its place", &c, &a);
-        accepted += a.refusal == PIL_ACCEPTED;
-    }
-    return accepted;
-}
-
-/* So long that a length, place or room cut to fewer bits would show: right, too little room, its last RFC absent, its
-   last element wrong, and its first one too, beside which no room or an absent RFC counts for nothing. */
-static void compare_long_row(enum way way, size_t bytes)
-{
-    struct row r = right_row(way, bytes), shorter = r;
-
-    compare_row(r, PIL_ACCEPTED, 0);
-    shorter.room--;
-    compare_row(shorter, PIL_FULL, 0);
-    shorter.length--;
-    if (way == EXPORTING)
-        compare_row(shorter, PIL_NO_MATCH, shorter.length);
-    set_element(&r, r.length - 1, 0);
-    compare_row(r, PIL_NO_MATCH, r.length - 1);
-    set_element(&r, 0, 0);
-    r.room = 0;
-    compare_row(r, PIL_NO_MATCH, 0);
-    compare_row(shorter, PIL_NO_MATCH, 0);
-}
-
-static int compare_rows(void)
-{
-    static const size_t long_rows[] = {127, 128, 255, 256, 257, 32767, 32768, 65535, 65536, 65537};
-    uint64_t imported = 0, exported = 0;
-    int all;
-
-    for (size_t bytes = 1; bytes <= SHORT_ROWS; bytes++) {
-        for (size_t place = 0; place < bytes; place++)
-            imported += compare_elements(IMPORTING, bytes, place, BYTES);
-        for (size_t place = 0; place < PIL_IMPORTED_LENGTH(bytes); place++)
-            exported += compare_elements(EXPORTING, bytes, place, NUMBERS);
-    }
-    for (unsigned i = 0; i < sizeof long_rows / sizeof *long_rows; i++)
-        for (enum way way = IMPORTING; way < WAYS; way++)
-            compare_long_row(way, long_rows[i]);
-    all = imported == 3 * BYTES_WITH_COMMAND && exported == 3 * (BYTES_WITH_COMMAND + 1);
-    printf("rows: every byte at each place of one and of two: %" PRIu64 " imported; every 16-bit number at each place "
-           "of one pair and of two: %" PRIu64 " exported, and the others refused with 11 at that place; %zu long rows "
-           "each way, the longest of %zu bytes%s\n", imported, exported, sizeof long_rows / sizeof *long_rows,
-           long_rows[sizeof long_rows / sizeof *long_rows - 1], all ? "" : "  NOT ALL");
-    return all;
-}
-
 static void compare_table(void)
 {
 #if HAVE_KINDS
@@ -2886,34 +2755,6 @@ static int report_walks(void)
     return enough;
 }
 
-static int report_rows(void)
-{
-    static const char *const ends = "s accepted of nothing without room (0), with some (1), with just enough (2), with "
-                                    "more (3), refused with 11 (4), also where 6 holds (5), with 6 for one too few "
-                                    "(6), for more (7), for no room at all (8)";
-    static const char *const what = " PPD (0), EAR (1), 409 (2), 419 (3), NUL (4), another code that is no message "
-                                    "(5), another command (6)";
-    int enough = 1;
-
-    printf("import");
-    enough &= report_counts(ends, matchings[IMPORTING], 0, MATCHINGS, LEAST);
-    printf("export");
-    enough &= report_counts(ends, matchings[EXPORTING], 0, MATCHINGS, LEAST);
-    enough &= report_counts("imports refused with 11 where more is wrong (0), for the first byte (1), one amid (2), "
-                            "the last (3)", pointings[IMPORTING], 0, BEHIND, LEAST);
-    enough &= report_counts("exports refused with 11 where more is wrong (0), for the first frame (1), one amid (2), "
-                            "the last (3), an RFC that is absent (4)", pointings[EXPORTING], 0, POINTINGS, LEAST);
-    printf("  bytes of");
-    enough &= report_counts(what, strangers[IMPORTING][0], 0, BYTE_STRANGERS, LEAST);
-    for (unsigned odd = 0; odd < 2; odd++) {
-        printf("  at %s places%s, a data byte (7), an IDY (8), a ready frame (9), a number over 2,047 (10), ", odd ?
-               "odd" : "even", what);
-        enough &= report_counts(odd ? "a command with a byte (11)" : "an RFC (11)", strangers[EXPORTING][odd], 0,
-                                STRANGERS, LEAST);
-    }
-    return enough;
-}
-
 static int report(void)
 {
     int enough = 1;
@@ -2941,7 +2782,6 @@ static int report(void)
                             0, ENCODINGS, LEAST);
     enough &= report_saves();
     enough &= report_walks();
-    enough &= report_rows();
     enough &= report_counts("histories of no more devices than there could be before 02, j (0), of more (1), of as "
                             "many as there can be (2), openings of more than before accepted (3), set-ups of one too "
                             "many (4), lengths wrong but in the lowest byte (5)", sizes, 0, SIZES, LEAST);
@@ -2980,7 +2820,6 @@ int main(int argc, char **argv)
     enough &= compare_second_bytes();
     enough &= compare_items();
     enough &= compare_walks();
-    enough &= compare_rows();
     enough &= order_histories(seed, wanted / 500);
     return enough || wanted < FULL_RUN ? 0 : 2;
 }

@@ -1,6 +1,5 @@
-/* One piece of work of libpil or of the model on a loop or a script, or none, for counting the instructions that it
-   takes. Use: count devices, count names, or count CASE WHO: the case's line among the names; 0 for neither, 1 libpil,
-   2 model. */
+/* One piece of work of libpil or of the model on a loop, or none, for counting the instructions that it takes. Use:
+   count devices, count names, or count CASE WHO: the case's line among the names; 0 for neither, 1 libpil, 2 model. */
 #include "both.h"
 #include "loops.h"
 
@@ -140,22 +139,6 @@ static unsigned hops_of_byte(const struct calls *of)
     return of->take(area, sizeof area).frame;
 }
 
-/* Whether a command amid an import, and the last byte of an export, are what they must be. */
-
-static unsigned importing(const struct calls *of)
-{
-    loop_frames[LOOP_ROW - 2] = 0;
-    of->import(loop_row, LOOP_ROW, loop_frames, PIL_IMPORTED_LENGTH(LOOP_ROW));
-    return loop_frames[LOOP_ROW - 2] - PIL_C3 == loop_row[LOOP_ROW / 2 - 1];
-}
-
-static unsigned exporting(const struct calls *of)
-{
-    loop_row[LOOP_ROW - 1] = 0;
-    of->export(loop_frames, PIL_IMPORTED_LENGTH(LOOP_ROW), loop_row, LOOP_ROW);
-    return loop_row[LOOP_ROW - 1] == loop_frames[PIL_IMPORTED_LENGTH(LOOP_ROW) - 2] - PIL_C3;
-}
-
 /* The rounds of a whole record, by walks. */
 static unsigned whole_record_walked(const struct calls *of)
 {
@@ -197,8 +180,6 @@ static const struct {
     {"walk of an AAD, taken by every device", idle_loop, walk_of_aad, 0x580 + LOOP_DEVICES},
     {"busy loop: walk of a data byte", busy_loop_to_walk, walk_of_own_byte, ETE},
     {"a talker's 32 bytes walked round, 33 rounds", talker_loop, whole_record_walked, 33},
-    {"import of a row of 4,096 bytes", bus_script, importing, 1},
-    {"export of its 8,192 frames", bus_script, exporting, 1},
 };
 
 enum { CASES = sizeof cases / sizeof *cases };

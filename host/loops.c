@@ -1,4 +1,4 @@
-/* Idle and busy loops, and a script, for measuring. */
+/* Idle and busy loops, for measuring. */
 #include "loops.h"
 
 #include "model.h"
@@ -172,17 +172,4 @@ void talker_loop(uint8_t *area)
     for (unsigned i = 0; i < LOOP_DEVICES; i++)
         full_record(area + PIL_RECORD_AT(i), i, i == MIDDLE ? PIL_TALKER_ADDRESSED : PIL_TALKER_IDLE);
     area[PIL_RECORD_AT(MIDDLE) + PIL_RECORD_SENT] = 0;
-}
-
-uint8_t loop_row[LOOP_ROW];
-uint16_t loop_frames[PIL_IMPORTED_LENGTH(LOOP_ROW)];
-
-void bus_script(uint8_t *area)
-{
-    static const uint8_t bytes[] = {0x3f, 0x22, 0x65, 0x41, 0x08, 0x5f, 0x3e, 0x14, 0x15, 0x01, 0x7e, 0x04, 0x11};
-
-    idle_loop(area);
-    for (unsigned i = 0; i < LOOP_ROW; i++)
-        loop_row[i] = bytes[i % sizeof bytes];
-    model_import(loop_row, LOOP_ROW, loop_frames, PIL_IMPORTED_LENGTH(LOOP_ROW));
 }

@@ -1,6 +1,5 @@
 /* The loops that bench, count and stack measure on, made without a call of libpil: idle ones, and busy ones with full
-   records in every talker state. They have as many devices as a loop can, or as LOOP_DEVICES is defined to be. And a
-   long script of the parallel bus. */
+   records in every talker state. They have as many devices as a loop can, or as LOOP_DEVICES is defined to be. */
 #ifndef LOOPS_H
 #define LOOPS_H
 
@@ -18,8 +17,7 @@ enum {
     LOOP_TALKER_STATES = PIL_TALKER_ACCESSORY + 1,
     LOOP_FIRST_BYTE = 0xb8, /* a full record's ID and data, which stand together, count up from this byte .. */
     LOOP_LAST_BYTE = LOOP_FIRST_BYTE + PIL_MOST_ID + PIL_MOST_DATA - 1, /* .. to this one */
-    LOOP_OWN_BYTE = LOOP_FIRST_BYTE + PIL_MOST_ID + PIL_MOST_DATA / 2 - 1, /* what a full record that sends data sent */
-    LOOP_ROW = 4096 /* bytes of the script */
+    LOOP_OWN_BYTE = LOOP_FIRST_BYTE + PIL_MOST_ID + PIL_MOST_DATA / 2 - 1 /* what a full record that sends data sent */
 };
 
 /* Devices at power-on with every ability and no address; links empty. */
@@ -51,9 +49,5 @@ void listening_loop(uint8_t *area);
 void extended_loop(uint8_t *area);
 /* Full records of idle devices, but one in the middle is addressed to talk and has sent nothing; links empty. */
 void talker_loop(uint8_t *area);
-/* Makes the script, and its frames: commands of every kind that has a byte. It needs no devices: the loop is idle. */
-void bus_script(uint8_t *area);
-extern uint8_t loop_row[LOOP_ROW];
-extern uint16_t loop_frames[PIL_IMPORTED_LENGTH(LOOP_ROW)];
 
 #endif

@@ -15,7 +15,6 @@ enum {
     MOST_SECOND = PIL_SECOND_ADDRESS + PIL_PRIMARY_RECEIVED, /* the most that bytes 20 and 21 can be */
     ETO = 0x540,
     ETE = 0x541,
-    RFC = 0x500,
     DATA_PLACES = 8, /* D1 to D8 */
     HEADER_EDITION = PIL_SAVE_EDITION - PIL_SAVE_HEAD_LENGTH /* the edition's place in a saved header */
 };
@@ -1793,166 +1792,7 @@ uint8_t model_open(uint8_t *area, size_t area_len, const uint8_t *save, size_t s
     return PIL_ACCEPTED;
 }
 
-/* Scripts from the parallel bus: 02, m. */
-
-/* The bytes that mean on the bus what their command means on the loop; a command is its byte behind C3. */
-static const uint8_t has_command[UINT8_MAX + 1] = {
-    [0x01] = 1, /* GTL */
-    [0x04] = 1, /* SDC */
-    [0x08] = 1, /* GET */
-    [0x11] = 1, /* LLO */
-    [0x14] = 1, /* DCL */
-    [0x15] = 1, /* PPU */
-    [0x20 ... 0x3e] = 1, /* LAD */
-    [0x3f] = MODEL_FAULT != 266, /* UNL */
-    [0x40 ... 0x5e] = 1, /* TAD */
-    [0x5f] = MODEL_FAULT != 267, /* UNT */
-    [0x60 ... 0x7e] = MODEL_FAULT != 268, /* SAD */
-    /* All others are without one but by a fault. */
-    [0x00] = MODEL_FAULT == 269,
-    [0x05] = MODEL_FAULT == 270,
-    [0x09] = MODEL_FAULT == 271,
-    [0x18] = MODEL_FAULT == 272,
-    [0x19] = MODEL_FAULT == 273,
-    [0x7f] = MODEL_FAULT == 274,
-    [0xa0 ... 0xfe] = MODEL_FAULT == 275,
-};
-
-static struct pil_matched no_match(size_t place)
-{
-    place += MODEL_FAULT == 276;
-    return (struct pil_matched){MODEL_FAULT == 277 ? place % 256 : place, PIL_NO_MATCH};
-}
-
-/* No place, however far the room would have reached. */
-static struct pil_matched no_room(size_t room)
-{
-    return (struct pil_matched){MODEL_FAULT == 278 ? room : 0, PIL_FULL};
-}
-
-/* The length where every byte has a command. */
-static size_t first_byte_without(const uint8_t *row, size_t length)
-{
-    size_t place = 0;
-
-    while (place < length && has_command[row[place]])
-        place++;
-    for (size_t i = place; MODEL_FAULT == 279 && i < length; i++)
-        if (!has_command[row[i]])
-            place = i;
-    return MODEL_FAULT == 280 && place + 1 == length ? length : place;
-}
-
-/* Room for two frames a byte. */
-static int import_fits(size_t row_len, size_t room)
-{
-    if (MODEL_FAULT == 281)
-        room++;
-    if (MODEL_FAULT == 282 && room > 0)
-        room--;
-    if (MODEL_FAULT == 283 && room == 0)
-        return 0;
-    return room / 2 >= row_len;
-}
-
-static void import_bytes(const uint8_t *row, size_t count, uint16_t *frames)
-{
-    for (size_t i = 0; i < count; i++) {
-        frames[2 * i] = (uint16_t)(PIL_C3 + row[i]);
-        if (MODEL_FAULT != 284 || i + 1 < count)
-            frames[2 * i + 1] = RFC;
-    }
-}
-
-/* Nothing is written before all is known to be right: a test pass, then a writing one. */
-struct pil_matched model_import(const uint8_t *row, size_t row_len, uint16_t *frames, size_t room)
-{
-    size_t place = first_byte_without(row, row_len), most = room / 2 < place ? room / 2 : place;
-    int fits = import_fits(row_len, room);
-
-    if (MODEL_FAULT == 285 && !fits)
-        return no_room(room);
-    if ((place < row_len && MODEL_FAULT == 286) || (place == row_len && !fits && MODEL_FAULT == 287))
-        import_bytes(row, most, frames);
-    if (place < row_len)
-        return no_match(MODEL_FAULT == 288 ? 0 : place);
-    if (!fits)
-        return no_room(room);
-    import_bytes(row, row_len, frames);
-    if (MODEL_FAULT == 289 && room > 2 * row_len)
-        frames[2 * row_len] = 0;
-    return (struct pil_matched){.refusal = PIL_ACCEPTED};
-}
-
-/* A command with a byte; 02, m: a number over 2,047 has none. */
-static inline int has_byte(unsigned frame)
-{
-    if (MODEL_FAULT == 290)
-        frame %= PIL_FRAMES;
-    if (MODEL_FAULT == 291)
-        frame &= ~(unsigned)PIL_C1;
-    return frame - PIL_C3 <= UINT8_MAX && has_command[frame - PIL_C3];
-}
-
-static inline int is_rfc(unsigned frame)
-{
-    if (MODEL_FAULT == 292)
-        return frame % PIL_FRAMES == RFC;
-    if (MODEL_FAULT == 293)
-        return frame >> 8 == RFC >> 8;
-    return frame == RFC;
-}
-
-/* Commands stand at even places, RFCs at odd ones. The length where none is wrong, though the last RFC be absent. */
-static size_t first_frame_without(const uint16_t *frames, size_t length)
-{
-    size_t place = 0;
-
-    for (; place + 1 < length; place += 2) {
-        if (!has_byte(frames[place]))
-            return place;
-        if (!is_rfc(frames[place + 1]) && MODEL_FAULT != 294)
-            return place + 1;
-    }
-    return place < length && has_byte(frames[place]) ? length - (MODEL_FAULT == 302) : place;
-}
-
-/* Room for a byte a pair. */
-static int export_fits(size_t frames_len, size_t room)
-{
-    if (MODEL_FAULT == 295)
-        room++;
-    return room >= (MODEL_FAULT == 296 ? frames_len : frames_len / 2);
-}
-
-static void export_pairs(const uint16_t *frames, size_t pairs, uint8_t *row)
-{
-    for (size_t i = 0; i < pairs; i++)
-        row[i] = (uint8_t)frames[2 * i];
-}
-
-struct pil_matched model_export(const uint16_t *frames, size_t frames_len, uint8_t *row, size_t room)
-{
-    size_t place = first_frame_without(frames, frames_len), pairs = frames_len / 2;
-    int fits = export_fits(frames_len, room), absent = frames_len % 2 == 1 && MODEL_FAULT != 297;
-
-    if (MODEL_FAULT == 298 && !fits)
-        return no_room(room);
-    if (MODEL_FAULT == 299 && absent)
-        return no_match(frames_len);
-    if ((MODEL_FAULT == 300 && place < frames_len) || (MODEL_FAULT == 304 && place == frames_len && !absent && !fits))
-        export_pairs(frames, place / 2 < room ? place / 2 : room, row);
-    if (place < frames_len || absent)
-        return no_match(MODEL_FAULT == 301 ? place / 2 : place);
-    if (!fits)
-        return no_room(room);
-    export_pairs(frames, pairs, row);
-    if (MODEL_FAULT == 303 && room > pairs)
-        row[pairs] = 0;
-    return (struct pil_matched){.refusal = PIL_ACCEPTED};
-}
-
-/* The listers. That of the loop: 01, Rows for the table, its last part. */
+/* The lister: 01, Rows for the table, its last part. */
 
 struct listing {
     uint8_t area[PIL_AREA_LENGTH(PIL_MOST_DEVICES)];
@@ -2035,21 +1875,4 @@ size_t model_list(const char *text, size_t length, char *out)
         number++;
     } while (line < end);
     return list.length;
-}
-
-/* That of the bus: for each byte its command and RFC, a line each; where a byte has none, only its place. */
-size_t model_bus_list(const uint8_t *row, size_t length, char *out)
-{
-    static uint16_t frames[2 * MODEL_MOST_TEXT];
-    struct pil_matched matched;
-    size_t written = 0;
-
-    if (length > MODEL_MOST_TEXT)
-        return (size_t)sprintf(out, "long\n");
-    matched = model_import(row, length, frames, 2 * MODEL_MOST_TEXT);
-    if (matched.refusal)
-        return (size_t)sprintf(out, "bad %u\n", (unsigned)matched.place);
-    for (size_t i = 0; i < 2 * length; i++)
-        written += (size_t)sprintf(out + written, "%03x\n", frames[i]);
-    return written;
 }

@@ -1,5 +1,5 @@
 /* An independent model of the papers 01 and 02 in plain C: the calls of pil.h under names of its own, over the same
-   area, and the listers. Compiled with MODEL_FAULT 1 to 304 it has a deliberate fault, for checks of the comparison. */
+   area, and the lister. Compiled with MODEL_FAULT 1 to 265 it has a deliberate fault, for checks of the comparison. */
 #ifndef MODEL_H
 #define MODEL_H
 
@@ -24,19 +24,14 @@ uint8_t model_open(uint8_t *area, size_t area_len, const uint8_t *save, size_t s
 struct pil_decoded model_decode(uint64_t frame);
 struct pil_encoded model_encode(uint64_t kind, uint64_t offset, uint64_t c1);
 struct pil_polled model_poll_count(uint64_t frame);
-struct pil_matched model_import(const uint8_t *row, size_t row_len, uint16_t *frames, size_t room);
-struct pil_matched model_export(const uint16_t *frames, size_t frames_len, uint8_t *row, size_t room);
 
 enum {
-    MODEL_MOST_TEXT = 60000,   /* longest text that the lister reads, and longest row of the bus lister */
-    MODEL_MOST_BUS_LISTED = 8 * MODEL_MOST_TEXT, /* room for what the latter prints: two lines a byte */
+    MODEL_MOST_TEXT = 60000,   /* longest text that the lister reads */
     MODEL_MOST_LISTED = MODEL_MOST_TEXT / 4 * (16 * PIL_MOST_DEVICES + 16) /* room for what it prints: a line for each
                                                                               frame and for each byte handed */
 };
 
 /* Lists the text into out, which has MODEL_MOST_LISTED bytes, and gives the length written. */
 size_t model_list(const char *text, size_t length, char *out);
-/* The same for a row of command bytes of the parallel bus, into MODEL_MOST_BUS_LISTED bytes. */
-size_t model_bus_list(const uint8_t *row, size_t length, char *out);
 
 #endif

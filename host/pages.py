@@ -137,9 +137,6 @@ def commands(text, expected):
     listing = next(t for w, t in blocks(root / 'README.md') if w == 'text')
     compare('make list', run(['make', '-s', 'list'], cwd=scratch), listing)
     tried['commands'] += 1
-    line = command('bus').replace('target/bin/', ' '.join([*runner, 'target/bin/']))
-    listing = next(t for w, t in blocks(root / 'README.md') if w == 'text bus')
-    compare('README, for the parallel bus,', run(['sh', '-e', '-c', line], cwd=scratch), listing)
     installed(expected)
 
 

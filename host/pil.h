@@ -16,7 +16,7 @@
 /* The version: the first number rises where a bench has to be changed or compiled anew, the second where something is
    added. */
 #define PIL_VERSION_MAJOR 4
-#define PIL_VERSION_MINOR 4
+#define PIL_VERSION_MINOR 3
 #define PIL_VERSION_PATCH 0
 #define PIL_VERSION (PIL_VERSION_MAJOR * 10000 + PIL_VERSION_MINOR * 100 + PIL_VERSION_PATCH)
 
@@ -25,7 +25,7 @@ extern "C" {
 #endif
 
 /* Refusals. A refused call answers its refusal and zeros and alters nothing; the smallest that holds is given, but at
-   opening 10 before 1 and 2, and at import and export 11 before 6. Beside an 11 the answer has its place. */
+   opening 10 before 1 and 2. */
 enum {
     PIL_ACCEPTED = 0,   /* no refusal */
     PIL_SHAPE = 1,      /* the area's length is that of no loop or, but at set-up and opening, not that of its byte 0,
@@ -40,17 +40,14 @@ enum {
     PIL_BAD_FRAME = 4,  /* a frame over 2,047, at a walk too; a kind or offset outside the message table, a C1 that is
                            not 0 or 1, or a C1 of 1 on a kind without one; at a poll count, any number that is no IDY */
     PIL_EMPTY = 5,      /* the link to take from holds no frame */
-    PIL_FULL = 6,       /* the link to add to holds four frames; at import and export the room lent is too short for
-                           what the row becomes */
+    PIL_FULL = 6,       /* the link to add to holds four frames */
     PIL_NO_ABILITY = 7, /* the device lacks the ability: data for a load, status for a status, service request for a
                            wish, also for wish 0, and parallel poll for a poll status, also for 0 */
     PIL_TOO_LONG = 8,   /* a load of more than 32 bytes */
     PIL_BUSY = 9,       /* a load while the device is sending data (talker state 2) */
-    PIL_BAD_SAVE = 10,  /* at opening, no save: a body of a wrong kind, at a wrong place or of a wrong length, bytes
+    PIL_BAD_SAVE = 10   /* at opening, no save: a body of a wrong kind, at a wrong place or of a wrong length, bytes
                            missing at the end or left over, a number of devices that no loop has, or an edition that is
                            not 0 or 1 */
-    PIL_NO_MATCH = 11   /* at import, a byte that has no command on the loop; at export, a frame that has no byte on the
-                           bus or breaks a pair of command and RFC, or a last RFC that is absent */
 };
 
 /* Why a drain stopped. A refused drain answers 0 here as well: look at its refusal first. */
@@ -159,8 +156,6 @@ enum {
 /* The length of what a walk tells of n devices, and where it tells of device i. */
 #define PIL_TOLD_LENGTH(n) (PIL_TOLD_EACH * (size_t)(n))
 #define PIL_TOLD_AT(i) (PIL_TOLD_EACH * (size_t)(i))
-/* The frames that n bytes are imported as: a command and an RFC each. */
-#define PIL_IMPORTED_LENGTH(n) (2 * (size_t)(n))
 /* The length of n devices' set-up items, and where device i's item begins. */
 #define PIL_ITEMS_LENGTH(n) (PIL_ITEM_LENGTH * (size_t)(n))
 #define PIL_ITEM_AT(i) (PIL_ITEM_LENGTH * (size_t)(i))
@@ -433,20 +428,12 @@ struct pil_encoded {
     uint8_t refusal; /* 0 if accepted */
 };
 
-/* What an import or export answers. */
-struct pil_matched {
-    uint64_t place;  /* refused with 11: the first byte or frame without a match, counted from 0, or the length of a row
-                        of frames whose last RFC alone is absent; else 0 */
-    uint8_t refusal; /* 0 if accepted */
-};
-
 /* The calls. A uint8_t answer is the refusal; in a struct look at the refusal first, since the frame 0 that a refused
    call answers would be a data byte. Pointers are not null, at length 0 either; items, bytes to load and saves lie
-   outside the area, what a walk tells outside the records, and a row outside the room for what it becomes. Lengths
-   count bytes, but those of frames at import and export count frames: elements of what the pointer points to. Any
-   number may be passed for a uint64_t. Each call on an area but set-up and opening judges the whole of it before it
-   does anything, a walk all that it is lent of it. A bench may read the area between calls, and write to it at its own
-   risk: what is not sound is refused, what is sound is believed. */
+   outside the area, and what a walk tells outside the records. Any number may be passed for a uint64_t. Each call on
+   an area but set-up and opening judges the whole of it before it does anything, a walk all that it is lent of it. A
+   bench may read the area between calls, and write to it at its own risk: what is not sound is refused, what is sound
+   is believed. */
 
 /* Writes the power-on loop of the items' devices into the area, whatever that held. The area's length says how many
    devices there are, PIL_AREA_LENGTH(n) for n, and there are n items, all of PIL_ITEM_LENGTH bytes, all of
@@ -522,19 +509,6 @@ struct pil_encoded pil_encode(uint64_t kind, uint64_t offset, uint64_t c1);
 /* What an IDY that came back says: how many of its eight data bits are one, and which is the lowest of these. A bit may
    be one because the IDY was put with it, since no device clears a bit. C1 is not counted. Gives 4. */
 struct pil_polled pil_poll_count(uint64_t frame);
-/* Imports a row of command bytes of the parallel bus, IEEE 488: each becomes its command, PIL_C3 + the byte, and an
-   RFC behind it. The bytes with a command are GTL 01, SDC 04, GET 08, LLO 11, DCL 14, PPU 15, LAD 20-3e, UNL 3f, TAD
-   40-5e, UNT 5f and SAD 60-7e. No other comes through: 05, 09, 18 and 19 mean other things on the bus, while 405 and
-   418 are PPD and EAR on the loop, and 409 and 419 no message. (Where a 05 is taken out of a script the byte of 60 to
-   7e behind it has to go too: it configured a poll, and by itself would be a SAD.) Needs room for
-   PIL_IMPORTED_LENGTH(row_len) frames; past these, and if refused all over, the room keeps its content. No bytes need
-   no room. Sending the frames round is the bench's part. Gives 11, then 6. */
-struct pil_matched pil_import(const uint8_t *row, size_t row_len, uint16_t *frames, size_t room);
-/* Exports frames as a row of command bytes, the other way: each pair of a command that has a byte and an RFC gives that
-   byte. It undoes an import, and an import undoes it. At an even place a number that is no such command is refused, at
-   an odd place one that is not RFC, and any over 2,047. Needs room for a byte a pair; past these, and if refused all
-   over, the room keeps its content. No frames need no room. Gives 11, then 6. */
-struct pil_matched pil_export(const uint16_t *frames, size_t frames_len, uint8_t *row, size_t room);
 
 #ifdef __cplusplus
 }

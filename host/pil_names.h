@@ -50,20 +50,19 @@ static const char *const pil_kind_names[43] = {
     "IDY",
 };
 
-/* Refusals, PIL_ACCEPTED to PIL_NO_MATCH. */
-static const char *const pil_refusal_texts[12] = {
+/* Refusals, PIL_ACCEPTED to PIL_BAD_SAVE. */
+static const char *const pil_refusal_texts[11] = {
     "accepted",
     "shape: lengths do not fit, or no set-up yet",
     "unsound: the area, an item or a choice breaks a rule",
     "no device: its number is too high",
     "bad frame: no such frame, kind, offset or C1, or no IDY",
     "empty: no frame to take",
-    "full: no room for a frame or byte",
+    "full: no room for a frame",
     "no ability: the device cannot do that",
     "too long: more than 32 bytes",
     "busy: the device is sending data",
     "bad save: no saved loop, or not all of one",
-    "no match: a byte without a command, or frames that are no pairs",
 };
 
 /* Why a drain stopped, PIL_STOP_NO_HOP to PIL_STOP_EVENT. */

@@ -1,7 +1,7 @@
 /* Runs the rows of 01 and 02, 01's cases at the limits, the choices of a load, remote and local, clears and triggers,
-   parallel polls, extended addresses, hops owed, walks, scripts of the parallel bus, a saved loop, as it is saved now
-   and as it was before, and codes of 001's message table through libpil.a, called as a bench calls it. Prints each
-   check that fails and exits 1, or how many held. */
+   parallel polls, extended addresses, hops owed, walks, a saved loop, as it is saved now and as it was before, and
+   codes of 001's message table through libpil.a, called as a bench calls it. Prints each check that fails and exits 1,
+   or how many held. */
 #include "pil.h"
 #include "smoke.h"
 
@@ -797,7 +797,6 @@ int main(void)
     limits();
     owed_cases();
     walk_cases();
-    bus_cases();
     save_cases();
     open_cases();
     old_save_cases();

@@ -11,7 +11,4 @@ void extended_cases(void);
 /* Walks (02, l): what comes out and is told, and refusals. */
 void walk_cases(void);
 
-/* Import and export (02, m): bytes and commands, pairs, rooms. */
-void bus_cases(void);
-
 #endif

@@ -98,22 +98,6 @@ static unsigned long opening(const struct calls *of, uint8_t *area)
     return of->open(area, area_len, save, sizeof save) == PIL_ACCEPTED;
 }
 
-/* What became of the middle, where it was accepted. These are loops of few instructions: the same code at another place
-   in memory has taken from 0.8 to 1.4 of the time. */
-static unsigned long importing(const struct calls *of, uint8_t *area)
-{
-    (void)area;
-    return of->import(loop_row, LOOP_ROW, loop_frames, PIL_IMPORTED_LENGTH(LOOP_ROW)).refusal == PIL_ACCEPTED
-        ? loop_frames[LOOP_ROW] : 0;
-}
-
-static unsigned long exporting(const struct calls *of, uint8_t *area)
-{
-    (void)area;
-    return of->export(loop_frames, PIL_IMPORTED_LENGTH(LOOP_ROW), loop_row, LOOP_ROW).refusal == PIL_ACCEPTED
-        ? loop_row[LOOP_ROW / 2] : 0;
-}
-
 /* The frame out and what is told of the last device. */
 static unsigned long walk(const struct calls *of, uint8_t *area, unsigned frame)
 {
@@ -196,8 +180,6 @@ static const struct work {
     {"busy loop: hops owed, links full", busy_loop, 1, owed},
     {"busy loop: save", busy_loop, 1, saving},
     {"busy loop: opening", saved_busy_loop, 1, opening},
-    {"import of a row of 4,096 bytes", bus_script, 1, importing},
-    {"export of its 8,192 frames", bus_script, 1, exporting},
 };
 
 /* One run of one side: nanoseconds a unit. The areas are made anew first, outside the time taken. */

@@ -1,10 +1,10 @@
 -- Demand 1, call by call: the tests of a call are the conditions of the table that concern it.
 use Prim.Native.Nat.{ℕ, zero, suc}
-use mathlib.Core.Path.{◌≡◌, refl, sym, ap, ◌∙◌}
+use mathlib.Core.Path.{◌≡◌, refl, ap, ◌∙◌}
 use mathlib.Core.Bool.{Bool, true, false, not, cond, ◌&&◌, ◌||◌}
-use mathlib.Core.List.{List, ◌++◌}
+use mathlib.Core.List.{List}
 use native.Mathlib.Omega.{arith}
-use lib.ListN.{length, drop}
+use lib.ListN.{length}
 use lib.Dec.{eqb, ltb, leb}
 use borrow.Author.Tests.{eqb-true, eqb-false, lt-ltb, le-ltb, ltb-true, ltb-false, leb-true, leb-false, le-leb}
 use borrow.Author.Tests.{eq-eqb, ne_eqb}
@@ -31,13 +31,10 @@ use Rattle.saved.specs.Saved.{saved, saved_size, saved_count, saved_devices, for
 use Rattle.saved.specs.Older.{old, zero_choice_in, opened, sound_save}
 use Rattle.saved.specs.Calls.{save_of, save_with, open_with}
 use Rattle.walk.specs.Walk.{refusal_with, stays, walks, walk_with}
-use Rattle.bus.specs.Rows.{imported, have_commands, byte_without, exported, are_pairs, frame_without}
-use Rattle.bus.specs.Calls.{written, match_answer, writes}
-use Rattle.demands.specs.Calls.{Byte, numbers, Word, words, Local, load, status, wish, key, poll_status, called_by}
-use Rattle.demands.specs.Calls.{local_by, Action, put, hop, take, local, drain, owes, save, Coding, decode, encode}
-use Rattle.demands.specs.Calls.{poll_count, import, export, Call, on_area, set_up, opens, on_frame, walk, Answer}
-use Rattle.demands.specs.Calls.{plain, hopped, taken, drained, owing, saving, decoded, encoded, polled, matched}
-use Rattle.demands.specs.Calls.{told, pil, refusal_in, bare_coding, bare, acts}
+use Rattle.demands.specs.Calls.{Byte, numbers, Local, load, status, wish, key, poll_status, called_by, local_by}
+use Rattle.demands.specs.Calls.{Action, put, hop, take, local, drain, owes, save, Call, on_area, set_up, opens}
+use Rattle.demands.specs.Calls.{on_frame, decode, encode, poll_count, Answer, plain, hopped, taken, drained, owing}
+use Rattle.demands.specs.Calls.{saving, decoded, encoded, polled, walk, told, pil, refusal_in, bare, acts}
 use Rattle.demands.specs.Conditions.{devices_at, old_with_choice, bad_c1, BadFrame, due}
 use Rattle.demands.specs.Demands.{Demand1}
 use Rattle.demands.proofs.Away.{whole}
@@ -46,7 +43,6 @@ use Rattle.demands.proofs.Refusals.{yes, Met, call_met, leb_turned, turned_lt, e
 use Rattle.demands.proofs.Tests.{size_is, put_told, take_told, hop_told, local_told, load_told}
 use Rattle.demands.proofs.Tests.{status_refusal, wish_refusal, poll_status_refusal, drain_told}
 use Rattle.demands.proofs.Walks.{as_after, refusal_due}
-use Rattle.demands.proofs.Bus.{import_due, export_due}
 
 -- a call held to a refusal, as demand 1 has it
 record Held (c : Call) (a : List ℕ) (o : After Answer) (k : ℕ) : Type 0 where
@@ -339,37 +335,6 @@ count_held f a = rw (no_idy f, count_is f) (go (eqb (kind_at f) idy))
     go true = record { refused = refl; unchanged = λ z. absurd (z refl) }
     go false = record { refused = refl; unchanged = λ z. (refl, refl) }
 
--- ---- import and export
-
--- a row is matched or 11 is due, then has room or 6 is
-bus_held : (c : Coding) (a : List ℕ) (m : Bool) (p : ℕ) (row room : List ℕ) →
-    ((k : ℕ) → bare_coding c k ≡ matched (match_answer p k) room) →
-    Held (on_frame c) a (after (matched (writes m p row room).answer (writes m p row room).room) a)
-    (cond (not m) 11 (cond (ltb (length room) (length row)) 6 0))
-unfolding writes
-bus_held c a m p row room e = go m (ltb (length room) (length row))
-  where
-    go : (m t : Bool) → let w = cond (not m) (written (match_answer p 11) room)
-        (cond t (written (match_answer p 6) room) (written (match_answer p 0) (row ++ drop (length row) room))) in
-        Held (on_frame c) a (after (matched w.answer w.room) a) (cond (not m) 11 (cond t 6 0))
-    go true true = record { refused = refl; unchanged = λ z. (sym (e 6), refl) }
-    go true false = record { refused = refl; unchanged = λ z. absurd (z refl) }
-    go false t = record { refused = refl; unchanged = λ z. (sym (e 11), refl) }
-
-import_held : (row : List Byte) (room : List Word) (a : List ℕ) →
-    Held (on_frame (import row room)) a (pil (on_frame (import row room)) a) (due (on_frame (import row room)) a)
-import_held row room a =
-    rw (import_due row room a)
-    (bus_held (import row room) a (have_commands (numbers row)) (byte_without (numbers row)) (imported (numbers row))
-    (words room) (λ k. refl))
-
-export_held : (row : List Word) (room : List Byte) (a : List ℕ) →
-    Held (on_frame (export row room)) a (pil (on_frame (export row room)) a) (due (on_frame (export row room)) a)
-export_held row room a =
-    rw (export_due row room a)
-    (bus_held (export row room) a (are_pairs (words row)) (frame_without (words row)) (exported (words row))
-    (numbers room) (λ k. refl))
-
 -- ---- the walk
 
 walk_held : (f : ℕ) (t : List Byte) (a : List ℕ) → Held (walk f t) a (pil (walk f t) a) (due (walk f t) a)
@@ -388,8 +353,6 @@ call_held (opens s) a = opens_held s a
 call_held (on_frame (decode f)) a = decode_held f a
 call_held (on_frame (encode k o c)) a = encode_held k o c a
 call_held (on_frame (poll_count f)) a = count_held f a
-call_held (on_frame (import row room)) a = import_held row room a
-call_held (on_frame (export row room)) a = export_held row room a
 call_held (walk f t) a = walk_held f t a
 
 pub demand_1 : Demand1

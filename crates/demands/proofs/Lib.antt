@@ -4,7 +4,6 @@ pub mod Refusals
 pub mod Tests
 pub mod Away
 pub mod Walks
-pub mod Bus
 pub mod First
 pub mod Records
 pub mod Bridge

@@ -54,7 +54,6 @@ use Rattle.demands.specs.Demands.{EndByChoice, RemoteLocal}
 use Rattle.demands.proofs.Away.{whole, save_leaves, open_leaves}
 use Rattle.demands.proofs.Tests.{size_is}
 use Rattle.demands.proofs.Walks.{refusal_due, walk_done}
-use Rattle.demands.proofs.Bus.{import_done, export_done}
 use Rattle.demands.proofs.First.{outside, no_idy, count_is, demand_1, sets_up}
 use Rattle.demands.proofs.ByHops.{drain_hops}
 use Rattle.demands.proofs.Spliced.{spliced, device_area, put_leaves, take_leaves, local_call_leaves}
@@ -199,8 +198,6 @@ demand_2 =
             decodes = λ f a h. ap (λ (r : DecodeAnswer). after (decoded r) a) (decode_answers f h);
             encodes = λ k o c a z. ap (λ (r : EncodeAnswer). after (encoded r) a) (encode_answers k o c a z);
             counts = λ f a z. ap (λ (r : PollAnswer). after (polled r) a) (count_answers f a z);
-            imports = import_done;
-            exports = export_done;
             walks_past = λ f t a z. walk_done f t a (refusal_due f t a ∙ z);
           };
       messages_in_order = in_order;

@@ -14,8 +14,6 @@ use Rattle.saved.specs.Calls.{save_with, open_with}
 use Rattle.coding.specs.Coding.{no_decoding, decode_answer, no_encoding, encode_answer}
 use Rattle.poll_count.specs.Count.{no_count, poll_count as pollAnswer}
 use Rattle.walk.specs.Walk.{no_walk, walk_with}
-use Rattle.bus.specs.Rows.{byte_without, frame_without}
-use Rattle.bus.specs.Calls.{match_answer, import_of, export_of}
 use Rattle.calls.specs.declared.HopAnswer.{HopAnswer}
 use Rattle.calls.specs.declared.TakeAnswer.{TakeAnswer}
 use Rattle.calls.specs.declared.DrainAnswer.{DrainAnswer}
@@ -24,7 +22,6 @@ use Rattle.coding.specs.declared.DecodeAnswer.{DecodeAnswer}
 use Rattle.coding.specs.declared.EncodeAnswer.{EncodeAnswer}
 use Rattle.poll_count.specs.declared.PollAnswer.{PollAnswer}
 use Rattle.walk.specs.declared.WalkAnswer.{WalkAnswer}
-use Rattle.bus.specs.declared.MatchAnswer.{MatchAnswer}
 
 -- a byte, as C has it
 pub record Byte : Type 0 where
@@ -33,14 +30,6 @@ pub record Byte : Type 0 where
 
 abbrev pub numbers : List Byte → List ℕ
 numbers bs = map (λ (b : Byte). b.value) bs
-
--- an element of a row of frames, as C has it: any number of sixteen bits
-pub record Word : Type 0 where
-  pub value : ℕ
-  pub small : value < 65536
-
-abbrev pub words : List Word → List ℕ
-words ws = map (λ (w : Word). w.value) ws
 
 -- a local call on a device
 pub data Local : Type 0 where
@@ -78,14 +67,11 @@ pub data Action : Type 0 where
   -- with the bytes of its output before
   save : List Byte → Action
 
--- a call on frames, which is lent no area
+-- a call on the numbers of a frame, which is lent no area
 pub data Coding : Type 0 where
   decode : ℕ → Coding
   encode : (kind offset c1 : ℕ) → Coding
   poll_count : ℕ → Coding
-  -- between a row of the parallel bus and one of frames (02, m), with the elements of the room before
-  import : (row : List Byte) (room : List Word) → Coding
-  export : (row : List Word) (room : List Byte) → Coding
 
 -- any exported call
 pub data Call : Type 0 where
@@ -110,8 +96,6 @@ pub data Answer : Type 0 where
   polled : PollAnswer → Answer
   -- with told afterwards
   walked : WalkAnswer → List ℕ → Answer
-  -- with the room afterwards
-  matched : MatchAnswer → List ℕ → Answer
 
 -- an answer of one type as any answer
 abbrev pub told : {A : Type 0} → (A → Answer) → After A → After Answer
@@ -129,13 +113,11 @@ acts_with limit owes a = after (owing (call_with limit no_owed (reads owed_in) a
 acts_with limit (save out) a =
     after (saving (save_with limit a (numbers out)).answer (save_with limit a (numbers out)).area) a
 
--- what a call on frames answers
+-- what a call on a frame answers
 abbrev pub codes : Coding → Answer
 codes (decode f) = decoded (decode_answer f)
 codes (encode k o c) = encoded (encode_answer k o c)
 codes (poll_count f) = polled (pollAnswer f)
-codes (import row room) = let w = import_of (numbers row) (words room) in matched w.answer w.room
-codes (export row room) = let w = export_of (words row) (numbers room) in matched w.answer w.room
 
 -- what any call answers and leaves
 abbrev pub pil_with : ℕ → Call → List ℕ → After Answer
@@ -164,10 +146,8 @@ refusal_in (decoded r) = r.refusal
 refusal_in (encoded r) = r.refusal
 refusal_in (polled r) = r.refusal
 refusal_in (walked r t) = r.refusal
-refusal_in (matched r x) = r.refusal
 
--- the answer of a refusal: its number and otherwise zeros, but with 11 the place without a match; and an output, told
--- or a room as it was
+-- the answer of a refusal: its number and otherwise zeros, and an output or told as it was
 abbrev pub bare_action : Action → ℕ → Answer
 bare_action (put f) k = plain k
 bare_action (hop i) k = hopped (no_hop k)
@@ -181,8 +161,6 @@ abbrev pub bare_coding : Coding → ℕ → Answer
 bare_coding (decode f) k = decoded (no_decoding k)
 bare_coding (encode j o c) k = encoded (no_encoding k)
 bare_coding (poll_count f) k = polled (no_count k)
-bare_coding (import row room) k = matched (match_answer (byte_without (numbers row)) k) (words room)
-bare_coding (export row room) k = matched (match_answer (frame_without (words row)) k) (numbers room)
 
 abbrev pub bare : Call → ℕ → Answer
 bare (on_area c) k = bare_action c k

@@ -1,8 +1,8 @@
 -- The conditions of 01's refusal table, each a test of a call and an area, written from the table row by row, with what
 -- 02 adds: g to the fourth, a to the first two and a tenth, d (by what is sound) and h to the second, h to the tenth;
 -- f to the first, the second (by what is sound and what is allowed), the fourth and the seventh; i to the first two; l
--- to the first two and the fourth; m to the sixth, and an eleventh.
-use Rattle.std.specs.Prelude.{ℕ, zero, suc, ◌-◌, ◌*◌, ◌/◌, List, [], ◌∷◌, Bool, false, not, cond, ◌&&◌, ◌||◌, length, get_or, eqb, ltb, leb}
+-- to the first two and the fourth.
+use Rattle.std.specs.Prelude.{ℕ, zero, suc, ◌-◌, ◌*◌, List, [], ◌∷◌, Bool, false, not, cond, ◌&&◌, ◌||◌, length, get_or, eqb, ltb, leb}
 use Rattle.frame.specs.Messages.{frames, first_of}
 use Rattle.frame.specs.Decoding.{idy, has_c1, offsets_of}
 use Rattle.device.specs.Device.{send_data, status as sendStatus, service_request, parallel_poll, sending_data, most_data}
@@ -17,11 +17,9 @@ use Rattle.area.specs.Parts.{parts, all}
 use Rattle.area.specs.Loop.{count_in, records_in, loop_of, sound, device, link}
 use Rattle.saved.specs.Saved.{body, saved_size, saved_count, edition, saved_devices, formed, contents}
 use Rattle.walk.specs.Walk.{told_size}
-use Rattle.bus.specs.Codes.{has_command}
-use Rattle.bus.specs.Rows.{are_pairs}
-use Rattle.demands.specs.Calls.{Byte, numbers, words, Local, load, status, wish, key, poll_status, Action, put}
-use Rattle.demands.specs.Calls.{hop, take, local, drain, owes, save, Coding, decode, encode, poll_count, import}
-use Rattle.demands.specs.Calls.{export, Call, on_area, set_up, opens, on_frame, walk}
+use Rattle.demands.specs.Calls.{Byte, numbers, Local, load, status, wish, key, poll_status, Action, put, hop}
+use Rattle.demands.specs.Calls.{take, local, drain, owes, save, decode, encode, poll_count, Call, on_area, set_up}
+use Rattle.demands.specs.Calls.{opens, on_frame, walk}
 
 -- the number of devices, n at most, whose bytes are so many; 0 if there is none
 abbrev pub devices_up_to : (ℕ → ℕ) → ℕ → ℕ → ℕ
@@ -135,8 +133,6 @@ BadFrame (opens s) = false
 BadFrame (on_frame (decode f)) = leb frames f
 BadFrame (on_frame (encode k o c)) = leb (offsets_of k) o || bad_c1 k c
 BadFrame (on_frame (poll_count f)) = ltb f (first_of idy) || leb frames f
-BadFrame (on_frame (import row room)) = false
-BadFrame (on_frame (export row room)) = false
 BadFrame (walk f t) = leb frames f
 
 -- link j holds no frame; it holds four
@@ -165,14 +161,6 @@ Full (local i c) a = false
 Full (drain b) a = false
 Full owes a = false
 Full (save out) a = false
-
--- and at import and export the room is too short: two frames a byte, a byte a pair of frames
-abbrev pub too_short : Coding → Bool
-too_short (decode f) = false
-too_short (encode k o c) = false
-too_short (poll_count f) = false
-too_short (import row room) = ltb (length (words room)) (2 * length (numbers row))
-too_short (export row room) = ltb (length (numbers room)) (length (words row) / 2)
 
 -- a device lacks the ability that a local call asks for: load without 2, status without 4, wish without 128, poll
 -- status without 1 of byte 7
@@ -222,22 +210,6 @@ BadSave (opens s) = not (formed most_devices (numbers s))
 BadSave (on_frame c) = false
 BadSave (walk f t) = false
 
--- 11, NoMatch: a byte without a command, or frames that are not pairs of a command with a byte and RFC
-abbrev pub NoMatch : Coding → Bool
-NoMatch (decode f) = false
-NoMatch (encode k o c) = false
-NoMatch (poll_count f) = false
-NoMatch (import row room) = not (all has_command (numbers row))
-NoMatch (export row room) = not (are_pairs (words row))
-
--- a condition of a call on frames, and no other call's
-abbrev pub of_coding : (Coding → Bool) → Call → Bool
-of_coding test (on_area c) = false
-of_coding test (set_up items) = false
-of_coding test (opens s) = false
-of_coding test (on_frame c) = test c
-of_coding test (walk f t) = false
-
 -- an action's condition, and no other call's
 abbrev pub of_action : (Action → List ℕ → Bool) → Call → List ℕ → Bool
 of_action test (on_area c) a = test c a
@@ -254,19 +226,17 @@ pub record Row : Type 0 where
 abbrev pub row : ℕ → Bool → Row
 row k test = record { number = k; holds = test }
 
--- the table, in the order of the numbers, but 10 and 11 first: 02, a and m, ask for each before the others, no call but
--- an opening has 10, and none but import and export 11
+-- the table, in the order of the numbers, but 10 first: 02, a, asks for it before the others, and no call but an
+-- opening has it
 abbrev pub table : Call → List ℕ → List Row
 table c a =
     row 10 (BadSave c) ∷
-    row 11 (of_coding NoMatch c) ∷
     row 1 (Shape c a) ∷
     row 2 (Unsound c a) ∷
     row 3 (of_action NoDevice c a) ∷
     row 4 (BadFrame c) ∷
     row 5 (of_action Empty c a) ∷
     row 6 (of_action Full c a) ∷
-    row 6 (of_coding too_short c) ∷
     row 7 (of_action NoAbility c a) ∷
     row 8 (of_action (λ d x. TooLong d) c a) ∷
     row 9 (of_action Busy c a) ∷

@@ -1,14 +1,14 @@
 -- The three demands on the model, and what 02 asks of the hops owed (k), of saved loops (a), of the limit on devices
--- (j), of END by choice (h), of clear, trigger, remote and local (d), of parallel poll (f), of extended addresses (i),
--- of a plain engine (l) and of scripts from the parallel bus (m), over the very definitions that the contracts of the
--- exported functions cite. No two meters at one address (e) is a page of its own over the same histories: addresses'
--- Addresses. It leans on Calls, Conditions, Drains, Histories (the crate teeth says what it shuts out); frame's
--- Messages, Classes, Decoding, Coding, Laws, Bits; coding's Coding; poll_count's Count; bus's Codes, Rows, Calls, Laws;
--- device's Sent, Sentences, RemoteTable, PollSentences, PollTable, ExtendedSentences, ExtendedTable, and Take with the
--- rules that it names; record_local's Local; record's Record, Parts, Sound, Fits, Laws; area's Sizes, Parts, Link,
--- Loop, Lookup; calls' Outcome, Calls, Drain, SetUp, Owed; saved's Saved, Older, Calls, Laws; walk's Walk; limits'
--- Limits; order's Line, Flat, History, RightRound, Through, Owed, which have names of their own.
-use Rattle.std.specs.Prelude.{ℕ, zero, suc, ◌+◌, ◌*◌, ◌/◌, ◌≤◌, ◌<◌, ◌≡◌, length, get_or, take as first, drop}
+-- (j), of END by choice (h), of clear, trigger, remote and local (d), of parallel poll (f), of extended addresses (i)
+-- and of a plain engine (l), over the very definitions that the contracts of the exported functions cite. No two meters
+-- at one address (e) is a page of its own over the same histories: addresses' Addresses.
+-- It leans on Calls, Conditions, Drains, Histories (the crate teeth says what it shuts out); frame's Messages,
+-- Classes, Decoding, Coding, Laws, Bits; coding's Coding; poll_count's Count; device's Sent, Sentences, RemoteTable,
+-- PollSentences, PollTable, ExtendedSentences, ExtendedTable, and Take with the rules that it names; record_local's
+-- Local; record's Record, Parts, Sound, Fits, Laws; area's Sizes, Parts, Link, Loop, Lookup; calls' Outcome, Calls,
+-- Drain, SetUp, Owed; saved's Saved, Older, Calls, Laws; walk's Walk; limits' Limits; order's Line, Flat, History,
+-- RightRound, Through, Owed, which have names of their own.
+use Rattle.std.specs.Prelude.{ℕ, zero, suc, ◌+◌, ◌*◌, ◌≤◌, ◌<◌, ◌≡◌, length, get_or, take as first, drop}
 use mathlib.Core.List.{List, [], ◌∷◌, ◌++◌, map, tail}
 use Rattle.std.specs.Int.Bits.{bit_or}
 use Rattle.frame.specs.Messages.{frames}
@@ -45,16 +45,14 @@ use Rattle.saved.specs.Laws.{SavedLong, OpenAfterSave, OpenOver, OneForm, OldFor
 use Rattle.limits.specs.Limits.{FewIn, FewItems, FewSaved, Agree, RefusesMore}
 use Rattle.poll_count.specs.Count.{counted}
 use Rattle.walk.specs.Walk.{past, out_of, told_size, told_of, devices_in}
-use Rattle.bus.specs.Rows.{imported, exported}
-use Rattle.bus.specs.Laws.{EqualCodes, NoneElse, Needs, FirstByte, FirstFrame, ImportExport, ExportImport}
 use Rattle.order.specs.History.{Turn, calls_in, hops_in, sum_over}
 use Rattle.order.specs.RightRound.{before, after as after_turn}
 use Rattle.order.specs.Through.{Every}
 use Rattle.order.specs.Owed.{owed}
-use Rattle.demands.specs.Calls.{Byte, numbers, Word, words, Local, called_by, put, hop, take, local, drain, owes}
-use Rattle.demands.specs.Calls.{save, Call, on_area, set_up, opens, on_frame, decode, encode, poll_count, import}
-use Rattle.demands.specs.Calls.{export, Answer, plain, hopped, taken, owing, saving, decoded, encoded, polled}
-use Rattle.demands.specs.Calls.{walk, walked, matched, pil_with, pil, refusal_in, bare}
+use Rattle.demands.specs.Calls.{Byte, numbers, Local, called_by, put, hop, take, local, drain, owes, save, Call}
+use Rattle.demands.specs.Calls.{on_area, set_up, opens, on_frame, decode, encode, poll_count, Answer, plain, hopped}
+use Rattle.demands.specs.Calls.{taken, owing, saving, decoded, encoded, polled, walk, walked, pil_with, pil}
+use Rattle.demands.specs.Calls.{refusal_in, bare}
 use Rattle.demands.specs.Conditions.{devices_at, due}
 use Rattle.demands.specs.Drains.{by_hops}
 use Rattle.demands.specs.Histories.{Step, call, away, stepped, area_left, frames_put, frames_taken, all_handed}
@@ -68,8 +66,7 @@ pub record Refuses (model : Call → List ℕ → After Answer) : Type 0 where
   -- the refusal it answers is the first in the table whose condition holds, so the lowest but where a request gives
   -- another order, and 0 where none does, so that the call is done;
   pub by_table : (c : Call) (a : List ℕ) → refusal_in (model c a).answer ≡ due c a
-  -- where that is not 0, it answers the number and otherwise zeros, but with 11 the first place without a match, and
-  -- all that it was lent stays as it was.
+  -- where that is not 0, it answers the number and otherwise zeros, and all that it was lent stays as it was.
   pub changes_nothing : (c : Call) (a : List ℕ) → (due c a ≡ 0 → ⊥) →
       ((model c a).answer ≡ bare c (due c a)) × ((model c a).area ≡ a)
 
@@ -155,16 +152,6 @@ pub record Obeys (model : Call → List ℕ → After Answer) : Type 0 where
   -- the count of a poll, where it is not refused, how many of an IDY's data bits are one, and which is the lowest;
   pub counts : (f : ℕ) (a : List ℕ) → due (on_frame (poll_count f)) a ≡ 0 →
       model (on_frame (poll_count f)) a ≡ after (polled (counted (decoding f).offset)) a
-  -- an import that is not refused writes each byte's command, followed by RFC, and an export the byte of each pair; the
-  -- room past them keeps its content;
-  pub imports : (row : List Byte) (room : List Word) (a : List ℕ) → due (on_frame (import row room)) a ≡ 0 →
-      model (on_frame (import row room)) a ≡ after
-      (matched (record { place = 0; refusal = 0 })
-      (imported (numbers row) ++ drop (2 * length (numbers row)) (words room))) a
-  pub exports : (row : List Word) (room : List Byte) (a : List ℕ) → due (on_frame (export row room)) a ≡ 0 →
-      model (on_frame (export row room)) a ≡ after
-      (matched (record { place = 0; refusal = 0 })
-      (exported (words row) ++ drop (length (words row) / 2) (numbers room))) a
   -- a walk that is not refused answers the frame that comes out past all devices, each given what the one before it
   -- sent; it tells what each was handed, and leaves the header as it was and the record of each as the rules make it.
   pub walks_past : (f : ℕ) (t : List Byte) (a : List ℕ) → due (walk f t) a ≡ 0 →
@@ -524,26 +511,3 @@ pub record PlainEngine : Type 0 where
   pub where_accepted : (a : List ℕ) (f : ℕ) (t : List Byte) → Bytes a → ZerosBehind a →
       length (numbers t) ≡ told_size * count_in a → refusal_in (pil (walk f t) (records_of a)).answer ≡ 0 →
       Witnessed a f t
-
--- ---- Scripts from the parallel bus (02, m). What import and export answer and write, demand 2 says; their refusals,
--- 11 first, demand 1. They are lent no area, and so are no steps of a history.
-
-pub record ParallelBus : Type 0 where
-  -- Eleven messages have equal codes in the two: byte b and frame 400 + b, of that kind by the message table.
-  pub equal_codes_lem : EqualCodes
-  -- The bus's 05, 09, 18 and 19 do not come through; the frame of a byte without a command has no byte, nor has a
-  -- number over 2,047.
-  pub none_else : NoneElse
-  -- Two frames are written for a byte, and a byte for a pair of frames; for no bytes and no frames nothing is.
-  pub needs : Needs
-  pub no_bytes : (room : List Word) (a : List ℕ) →
-      pil (on_frame (import [] room)) a ≡ after (matched (record { place = 0; refusal = 0 }) (words room)) a
-  pub no_frames : (room : List Byte) (a : List ℕ) →
-      pil (on_frame (export [] room)) a ≡ after (matched (record { place = 0; refusal = 0 }) (numbers room)) a
-  -- The places that demand 1 has beside 11 are the first of their sort; that of frames is the row's length where only
-  -- the last RFC is absent.
-  pub first_byte : (bytes : List ℕ) → FirstByte bytes
-  pub first_frame : (fs : List ℕ) → FirstFrame fs
-  -- Import, then export, gives the bytes back; export, then import, the frames.
-  pub import_export : ImportExport
-  pub export_import : ExportImport

@@ -24,7 +24,7 @@ use Rattle.order.specs.RightRound.{first, right_round, one_by_one}
 use Rattle.order.specs.Through.{Every}
 use Rattle.demands.specs.Calls.{Byte, numbers, Local, called_by, Action, put, hop, take, local, drain, owes, save}
 use Rattle.demands.specs.Calls.{Answer, plain, hopped, taken, drained, owing, saving, decoded, encoded, polled}
-use Rattle.demands.specs.Calls.{walked, matched, told, acts, refusal_in}
+use Rattle.demands.specs.Calls.{walked, told, acts, refusal_in}
 
 -- ---- A history: one step after the other
 
@@ -86,7 +86,6 @@ taken_by c (decoded r) = []
 taken_by c (encoded r) = []
 taken_by c (polled r) = []
 taken_by c (walked r t) = []
-taken_by c (matched r x) = []
 
 -- the device that a hop names
 abbrev pub hopper : Action → ℕ
@@ -118,7 +117,6 @@ handed_by i c (decoded r) = []
 handed_by i c (encoded r) = []
 handed_by i c (polled r) = []
 handed_by i c (walked r t) = []
-handed_by i c (matched r x) = []
 
 -- the hops made: one by a hop that was not refused, and as many as a drain says
 abbrev pub hops_by : Action → Answer → ℕ
@@ -132,7 +130,6 @@ hops_by c (decoded r) = 0
 hops_by c (encoded r) = 0
 hops_by c (polled r) = 0
 hops_by c (walked r t) = 0
-hops_by c (matched r x) = 0
 
 -- what a hop that was not refused told, in the four bytes of a walk
 abbrev pub told_by : Action → Answer → List ℕ
@@ -146,7 +143,6 @@ told_by c (decoded r) = []
 told_by c (encoded r) = []
 told_by c (polled r) = []
 told_by c (walked r t) = []
-told_by c (matched r x) = []
 
 -- the refused steps
 abbrev pub refused_by : Step → Answer → ℕ

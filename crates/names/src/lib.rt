@@ -20,7 +20,7 @@ pub fn kind(number: u64) {
     }
 }
 
-// Refusals 0 to 11, 0 for none.
+// Refusals 0 to 10, 0 for none.
 pub fn refusal(number: u64) {
     match number {
         0 => text(b"accepted"),
@@ -29,12 +29,11 @@ pub fn refusal(number: u64) {
         3 => text(b"no device: its number is too high"),
         4 => text(b"bad frame: no such frame, kind, offset or C1, or no IDY"),
         5 => text(b"empty: no frame to take"),
-        6 => text(b"full: no room for a frame or byte"),
+        6 => text(b"full: no room for a frame"),
         7 => text(b"no ability: the device cannot do that"),
         8 => text(b"too long: more than 32 bytes"),
         9 => text(b"busy: the device is sending data"),
         10 => text(b"bad save: no saved loop, or not all of one"),
-        11 => text(b"no match: a byte without a command, or frames that are no pairs"),
         _ => text(b"?"),
     }
 }

@@ -25,8 +25,8 @@ fn main() {
     text(b"/* Names for the numbers of pil.h: each array is indexed by such a number. */\n");
     text(b"\n/* Mnemonics of kinds, PIL_KIND_NONE to PIL_KIND_IDY. */\n");
     names_of(Names::Kinds, b"kind_names", KINDS as u64);
-    text(b"\n/* Refusals, PIL_ACCEPTED to PIL_NO_MATCH. */\n");
-    names_of(Names::Refusals, b"refusal_texts", 12);
+    text(b"\n/* Refusals, PIL_ACCEPTED to PIL_BAD_SAVE. */\n");
+    names_of(Names::Refusals, b"refusal_texts", 11);
     text(b"\n/* Why a drain stopped, PIL_STOP_NO_HOP to PIL_STOP_EVENT. */\n");
     names_of(Names::Stops, b"stop_texts", 4);
     text(b"\n/* Assignment states, PIL_UNCONFIGURED to PIL_HALF_ASSIGNED. */\n");

@@ -14,9 +14,7 @@ ghost use Rattle.coding.specs.Coding.{decode_answer, encode_answer};
 ghost use Rattle.poll_count.specs.Count.{poll_count};
 ghost use Rattle.walk.specs.Walk.{walk_of};
 ghost use Rattle.walk.specs.Inner.{IsWalked};
-ghost use Rattle.bus.specs.Calls.{import_of, export_of, Is as bus·Is};
 
-use bus::MatchAnswer;
 use calls::{DrainAnswer, HopAnswer, OwedAnswer, TakeAnswer};
 use coding::{DecodeAnswer, EncodeAnswer};
 use device::Device;
@@ -150,19 +148,4 @@ pub extern "C" fn pil_walk(records: &mut [u8], frame: u64, told: &mut [u8]) -> W
         told.new }
 {
     engine::walk(records, frame, told)
-}
-
-// Command bytes of the parallel bus as frames, each command with its RFC, and such frames as bytes.
-#[unsafe(no_mangle)]
-pub extern "C" fn pil_import(row: &[u8], frames: &mut [u16]) -> MatchAnswer
-    ensures { bus·Is (import_of row.now frames.old) result frames.new }
-{
-    bus::import::import(row, frames)
-}
-
-#[unsafe(no_mangle)]
-pub extern "C" fn pil_export(frames: &[u16], row: &mut [u8]) -> MatchAnswer
-    ensures { bus·Is (export_of frames.now row.old) result row.new }
-{
-    bus::export::export(frames, row)
 }

@@ -8,7 +8,7 @@ use native.Mathlib.Omega.{arith}
 use lib.Dec.{ltb, lit<}
 use lib.ListN.{replicate}
 use borrow.Author.Tests.{ltb-true}
-use Rattle.frame.specs.Messages.{messages, kind_at, lookup, within, first_in, codes_in, first_of}
+use Rattle.frame.specs.Messages.{messages, kind_at, lookup, within, first_in, first_of}
 use Rattle.frame.specs.Decoding.{has_c1, offset_in, c1_in}
 use Rattle.device.specs.Choose.{choose}
 use Rattle.device.specs.PowerOn.{power_on, bytes_from}
@@ -27,22 +27,18 @@ use Rattle.area.specs.Link.{frames_of, link_of, sound_slot, sound_link}
 use Rattle.area.specs.Loop.{count_in, loop_of, area_of, shaped_with, sound, judge_with, device, link}
 use Rattle.calls.specs.Outcome.{After, call_with}
 use Rattle.calls.specs.Calls.{hop_answer, hop_in, load_in}
-use Rattle.bus.specs.Codes.{equal_codes, has_command, has_byte, rfc}
-use Rattle.bus.specs.Rows.{imported, have_commands, byte_without, exported, are_pairs, frame_without}
-use Rattle.bus.specs.Calls.{writes}
 use Rattle.saved.specs.Saved.{saved, formed}
 use Rattle.saved.specs.Calls.{open_with, open_of}
 use Rattle.saved.proofs.Laws.{open_saved, saved_bytes}
-use Rattle.demands.specs.Calls.{Byte, numbers, Word, Action, put, hop, drain, save, Call, on_area, opens, on_frame}
-use Rattle.demands.specs.Calls.{import, export, walk, Answer, hopped}
+use Rattle.demands.specs.Calls.{Byte, numbers, Action, put, hop, drain, save, Call, on_area, opens, walk, Answer}
+use Rattle.demands.specs.Calls.{hopped}
 use Rattle.demands.specs.Conditions.{due}
 use Rattle.demands.specs.Histories.{Got, got, reported, handed_by, hops_by}
 use Rattle.demands.specs.Drains.{highest_of, stops_before, once_hopped, by_hops}
 use Rattle.demands.specs.Demands.{Judged, CanHop, ruled, hop_leaves, Obeys, records_of}
 use Rattle.demands.proofs.First.{demand_1}
-use Rattle.teeth.specs.Teeth.{RefuserShutOut, LowestGiven, TenFirst, ElevenFirst, ChoiceFirst}
-use Rattle.teeth.specs.Teeth.{frame_in, kind_in, OneKindShutOut, PasserShutOut, WorkerShutOut}
-use Rattle.teeth.specs.Teeth.{InventedCountShutOut}
+use Rattle.teeth.specs.Teeth.{RefuserShutOut, LowestGiven, TenFirst, ChoiceFirst, frame_in, kind_in}
+use Rattle.teeth.specs.Teeth.{OneKindShutOut, PasserShutOut, WorkerShutOut, InventedCountShutOut}
 
 -- ---- three loops: fresh devices that can be auto-addressed, and AAD 0 before the first, or nothing
 
@@ -123,21 +119,6 @@ opened =
     ∙ ap (λ (b : List ℕ). (open_of one b).answer) (numbers_back (saved one) (saved_bytes one one_can.judged.bytes))
     ∙ ap (λ (o : After ℕ). o.answer) (open_saved one one one_can.judged.sound refl)
 
--- DCL on the bus, and as a pair of frames
-abbrev dcl : Byte
-dcl = record { value = 0x14; small = lit< tt }
-
-abbrev word : (v : ℕ) → v < 65536 → Word
-word v h = record { value = v; small = h }
-
-abbrev room : List Word
-room = word 0 (lit< tt) ∷ word 0 (lit< tt) ∷ []
-
-matches : (due (on_frame (import (dcl ∷ []) room)) [] ≡ 0) ×
-    (due (on_frame (export (word 0x414 (lit< tt) ∷ word 0x500 (lit< tt) ∷ []) (zero_bytes 1))) [] ≡ 0)
-unfolding has_command has_byte rfc are_pairs equal_codes all messages kind_at lookup within codes_in first_in first_of
-matches = (refl, refl)
-
 pub refuser_shut_out : RefuserShutOut
 refuser_shut_out =
     record {
@@ -147,11 +128,6 @@ refuser_shut_out =
       of_openings = λ model never r. never its_save one (r.by_table (opens its_save) one ∙ opened);
       of_walks = λ model never r. never 0 (zero_bytes 4) (records_of one)
           (r.by_table (walk 0 (zero_bytes 4)) (records_of one) ∙ accepted.3);
-      of_imports = λ model never r. never dcl [] room []
-          (r.by_table (on_frame (import (dcl ∷ []) room)) [] ∙ matches.0);
-      of_exports = λ model never r. never (word 0x414 (lit< tt)) (word 0x500 (lit< tt) ∷ []) (zero_bytes 1) []
-          (r.by_table (on_frame (export (word 0x414 (lit< tt) ∷ word 0x500 (lit< tt) ∷ []) (zero_bytes 1))) []
-          ∙ matches.1);
     }
 
 pub lowest_given : LowestGiven
@@ -162,11 +138,6 @@ lowest_given = record { five = refl; six = refl; given = refl }
 pub ten_first : TenFirst
 unfolding formed open_with
 ten_first = record { ten = refl; one = refl; given = refl }
-
-pub eleven_first : ElevenFirst
-unfolding has_command has_byte rfc equal_codes all messages kind_at lookup within codes_in first_in first_of have_commands
-    byte_without imported are_pairs frame_without exported writes
-eleven_first = record { eleven = refl; six = refl; given = refl; exported = refl }
 
 pub choice_first : ChoiceFirst
 unfolding power_on bytes_from device_of record_of zeros sound_device sound_record parts join all frames_of link_of sound_slot

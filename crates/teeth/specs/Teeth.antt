@@ -7,10 +7,10 @@ use Rattle.device.specs.PowerOn.{power_on}
 use Rattle.device.specs.Take.{takes}
 use Rattle.area.specs.Loop.{Loop, count_in, loop_of, area_of, device, link}
 use Rattle.calls.specs.Outcome.{After}
-use Rattle.demands.specs.Calls.{Byte, Word, load, Action, put, hop, local, drain, save, Call, on_area, opens, on_frame}
-use Rattle.demands.specs.Calls.{decode, import, export, walk, Answer, plain, hopped, taken, drained, owing, saving}
-use Rattle.demands.specs.Calls.{decoded, encoded, polled, walked, matched, pil, refusal_in}
-use Rattle.demands.specs.Conditions.{Shape, Unsound, NoDevice, Empty, Full, BadSave, NoMatch, too_short}
+use Rattle.demands.specs.Calls.{Byte, load, Action, put, hop, local, drain, save, Call, on_area, opens, on_frame, decode}
+use Rattle.demands.specs.Calls.{Answer, plain, hopped, taken, drained, owing, saving, decoded, encoded, polled, pil}
+use Rattle.demands.specs.Calls.{walk, walked, refusal_in}
+use Rattle.demands.specs.Conditions.{Shape, Unsound, NoDevice, Empty, Full, BadSave}
 use Rattle.demands.specs.Histories.{hops_by}
 use Rattle.demands.specs.Demands.{Refuses, CanHop, ruled, Obeys}
 
@@ -21,8 +21,7 @@ abbrev pub NoneRefusing : (ℕ → Action) → Type 0
 NoneRefusing call = (model : Call → List ℕ → After Answer) →
     ((x : ℕ) (a : List ℕ) → refusal_in (model (on_area (call x)) a).answer ≡ 0 → ⊥) → Refuses model → ⊥
 
--- be it every put, every hop, every save in an output of zeros, every opening, every walk, or every import or export of
--- a row that is not empty.
+-- be it every put, every hop, every save in an output of zeros, every opening, or every walk.
 pub record RefuserShutOut : Type 0 where
   pub of_puts : NoneRefusing put
   pub of_hops : NoneRefusing hop
@@ -31,12 +30,6 @@ pub record RefuserShutOut : Type 0 where
       ((s : List Byte) (a : List ℕ) → refusal_in (model (opens s) a).answer ≡ 0 → ⊥) → Refuses model → ⊥
   pub of_walks : (model : Call → List ℕ → After Answer) →
       ((f : ℕ) (t : List Byte) (a : List ℕ) → refusal_in (model (walk f t) a).answer ≡ 0 → ⊥) → Refuses model → ⊥
-  pub of_imports : (model : Call → List ℕ → After Answer) →
-      ((b : Byte) (row : List Byte) (room : List Word) (a : List ℕ) →
-      refusal_in (model (on_frame (import (b ∷ row) room)) a).answer ≡ 0 → ⊥) → Refuses model → ⊥
-  pub of_exports : (model : Call → List ℕ → After Answer) →
-      ((w : Word) (row : List Word) (room : List Byte) (a : List ℕ) →
-      refusal_in (model (on_frame (export (w ∷ row) room)) a).answer ≡ 0 → ⊥) → Refuses model → ⊥
 
 -- one device with no frame before it and four behind it: 5 and 6 both hold for its hop, and 5 is given
 abbrev pub stuck : Loop
@@ -52,20 +45,6 @@ pub record TenFirst : Type 0 where
   pub ten : BadSave (opens []) ≡ true
   pub one : Shape (opens []) [] ≡ true
   pub given : refusal_in (pil (opens []) []).answer ≡ 10
-
--- the bus's 14 and 05, and no room: 11 and 6 both hold for the import, and 11 is given, with 05's place (02, m)
-abbrev pub dcl_and_ppc : List Byte
-dcl_and_ppc = record { value = 0x14; small = lit< tt } ∷ record { value = 0x05; small = lit< tt } ∷ []
-
--- and so for an export of DCL twice, without the RFC between
-abbrev pub dcl_twice : List Word
-dcl_twice = record { value = 0x414; small = lit< tt } ∷ record { value = 0x414; small = lit< tt } ∷ []
-
-pub record ElevenFirst : Type 0 where
-  pub eleven : NoMatch (import dcl_and_ppc []) ≡ true
-  pub six : too_short (import dcl_and_ppc []) ≡ true
-  pub given : (pil (on_frame (import dcl_and_ppc [])) []).answer ≡ matched (record { place = 1; refusal = 11 }) []
-  pub exported : (pil (on_frame (export dcl_twice [])) []).answer ≡ matched (record { place = 1; refusal = 11 }) []
 
 -- a load with a choice that is none, for a device that is not there: 2 and 3 both hold, and 2 is given (02, h)
 pub record ChoiceFirst : Type 0 where
@@ -87,7 +66,6 @@ frame_in (decoded r) = 0
 frame_in (encoded r) = 0
 frame_in (polled r) = 0
 frame_in (walked r t) = 0
-frame_in (matched r x) = 0
 
 abbrev pub kind_in : Answer → ℕ
 kind_in (plain k) = 0
@@ -100,7 +78,6 @@ kind_in (decoded r) = r.kind
 kind_in (encoded r) = 0
 kind_in (polled r) = 0
 kind_in (walked r t) = 0
-kind_in (matched r x) = 0
 
 -- No model whose decoder has one kind for every frame meets demand 2.
 abbrev pub OneKindShutOut : Type 0
