@@ -1,5 +1,5 @@
 // The calls exported to C (01, The calls): numbers and bytes in, a refusal or an answer out. Each stands in the crate
-// of its idea; here is the boundary that C sees.
+// of its idea; here is the boundary, which `pil_c` exports under these names.
 #![tactic(auto)]
 
 ghost use Rattle.std.specs.Prelude.{◌≡◌};
@@ -21,129 +21,111 @@ use device::Device;
 use poll_count::PollAnswer;
 use walk::WalkAnswer;
 
-#[unsafe(no_mangle)]
-pub extern "C" fn pil_set_up(area: &mut [u8], items: &[u8]) -> u8
+pub fn pil_set_up(area: &mut [u8], items: &[u8]) -> u8
     ensures { Is (set_up_of area.old items.now) result area.new }
 {
     set_up::set_up(area, items)
 }
 
-#[unsafe(no_mangle)]
-pub extern "C" fn pil_put(area: &mut [u8], frame: u64) -> u8
+pub fn pil_put(area: &mut [u8], frame: u64) -> u8
     ensures { Is (put_of area.old frame) result area.new }
 {
     ends::put::put(area, frame)
 }
 
-#[unsafe(no_mangle)]
-pub extern "C" fn pil_take(area: &mut [u8]) -> TakeAnswer
+pub fn pil_take(area: &mut [u8]) -> TakeAnswer
     ensures { Is (take_of area.old) result area.new }
 {
     ends::take::take(area)
 }
 
-#[unsafe(no_mangle)]
-pub extern "C" fn pil_hop(area: &mut [u8], device: u64) -> HopAnswer
+pub fn pil_hop(area: &mut [u8], device: u64) -> HopAnswer
     ensures { Is (hop_of area.old device) result area.new }
 {
     hop::hop(area, device)
 }
 
-#[unsafe(no_mangle)]
-pub extern "C" fn pil_drain(area: &mut [u8], budget: u64) -> DrainAnswer
+pub fn pil_drain(area: &mut [u8], budget: u64) -> DrainAnswer
     ensures { Is (drain_of area.old budget) result area.new }
 {
     drain::drain(area, budget)
 }
 
-#[unsafe(no_mangle)]
-pub extern "C" fn pil_load(area: &mut [u8], device: u64, bytes: &[u8], end: u64) -> u8
+pub fn pil_load(area: &mut [u8], device: u64, bytes: &[u8], end: u64) -> u8
     ensures { Is (load_of area.old device bytes.now end) result area.new }
 {
     local_calls::load(area, device, bytes, end)
 }
 
 // The entry of the printer scripts, which rely on END: a load with 1.
-#[unsafe(no_mangle)]
-pub extern "C" fn pil_load_end(area: &mut [u8], device: u64, bytes: &[u8]) -> u8
+pub fn pil_load_end(area: &mut [u8], device: u64, bytes: &[u8]) -> u8
     ensures { Is (load_of area.old device bytes.now end_last) result area.new }
 {
     pil_load(area, device, bytes, Device::END_LAST as u64)
 }
 
-#[unsafe(no_mangle)]
-pub extern "C" fn pil_status(area: &mut [u8], device: u64, status: u8) -> u8
+pub fn pil_status(area: &mut [u8], device: u64, status: u8) -> u8
     ensures { Is (status_of area.old device status) result area.new }
 {
     local_calls::status(area, device, status)
 }
 
-#[unsafe(no_mangle)]
-pub extern "C" fn pil_wish(area: &mut [u8], device: u64, wish: u64) -> u8
+pub fn pil_wish(area: &mut [u8], device: u64, wish: u64) -> u8
     ensures { Is (wish_of area.old device wish) result area.new }
 {
     local_calls::wish(area, device, wish)
 }
 
-#[unsafe(no_mangle)]
-pub extern "C" fn pil_key(area: &mut [u8], device: u64) -> u8
+pub fn pil_key(area: &mut [u8], device: u64) -> u8
     ensures { Is (key_of area.old device) result area.new }
 {
     local_calls::key(area, device)
 }
 
-#[unsafe(no_mangle)]
-pub extern "C" fn pil_poll_status(area: &mut [u8], device: u64, status: u64) -> u8
+pub fn pil_poll_status(area: &mut [u8], device: u64, status: u64) -> u8
     ensures { Is (poll_status_of area.old device status) result area.new }
 {
     local_calls::poll_status(area, device, status)
 }
 
-#[unsafe(no_mangle)]
-pub extern "C" fn pil_owed(area: &[u8]) -> OwedAnswer
+pub fn pil_owed(area: &[u8]) -> OwedAnswer
     ensures { result ≡ owed_of area.now }
 {
     owed::owed(area)
 }
 
-#[unsafe(no_mangle)]
-pub extern "C" fn pil_decode(frame: u64) -> DecodeAnswer
+pub fn pil_decode(frame: u64) -> DecodeAnswer
     ensures { result ≡ decode_answer frame }
 {
     coding::decode(frame)
 }
 
-#[unsafe(no_mangle)]
-pub extern "C" fn pil_encode(kind: u64, offset: u64, c1: u64) -> EncodeAnswer
+pub fn pil_encode(kind: u64, offset: u64, c1: u64) -> EncodeAnswer
     ensures { result ≡ encode_answer kind offset c1 }
 {
     coding::encode(kind, offset, c1)
 }
 
-#[unsafe(no_mangle)]
-pub extern "C" fn pil_poll_count(frame: u64) -> PollAnswer
+pub fn pil_poll_count(frame: u64) -> PollAnswer
     ensures { result ≡ poll_count frame }
 {
     poll_count::poll_count(frame)
 }
 
-#[unsafe(no_mangle)]
-pub extern "C" fn pil_save(area: &[u8], save: &mut [u8]) -> u8
+pub fn pil_save(area: &[u8], save: &mut [u8]) -> u8
     ensures { Is (save_of area.now save.old) result save.new }
 {
     save::save(area, save)
 }
 
-#[unsafe(no_mangle)]
-pub extern "C" fn pil_open(area: &mut [u8], save: &[u8]) -> u8
+pub fn pil_open(area: &mut [u8], save: &[u8]) -> u8
     ensures { Is (open_of area.old save.now) result area.new }
 {
     open::open(area, save)
 }
 
 // The second witness: a frame past every device, without links.
-#[unsafe(no_mangle)]
-pub extern "C" fn pil_walk(records: &mut [u8], frame: u64, told: &mut [u8]) -> WalkAnswer
+pub fn pil_walk(records: &mut [u8], frame: u64, told: &mut [u8]) -> WalkAnswer
     ensures { IsWalked (walk_of records.old frame told.old) result records.new
         told.new }
 {

@@ -8,31 +8,26 @@ use Rattle.engine_simple.proofs.Ruled.{ruled}
 use Rattle.engine_simple.proofs.command.Statement.{statement}
 use Rattle.engine_simple.proofs.command.Tie as tie
 
-returns : tie.Need-returns
+returns-in-9 : tie.Need-returns-in-9
 unfolding choose
-returns c =
-    let s = c.before.before in
-    let d = device_of s.args.rec.now in
-    let f = s.args.frame in
-    (search rules, ruled d f _ s.requires.1.read 9 (λ x. dcl d f) c.match.keys1 refl refl)
+returns-in-9 c =
+    let d = device_of c.args.rec.now in
+    let f = c.args.frame in
+    (search rules, ruled d f _ c.requires.1.read 9 (λ x. dcl d f) c.in-9.is refl refl)
 
-returns-2 : tie.Need-returns-2
+returns-in-5 : tie.Need-returns-in-5
 unfolding choose
-returns-2 c =
-    let m = c.before.before in
-    let s = m.before.before in
-    let d = device_of s.args.rec.now in
-    let f = s.args.frame in
-    (search rules, ruled d f _ s.requires.1.read 5 (λ x. sdc d f) m.match.keys2 c.to_listener.ensures refl)
+returns-in-5 c =
+    let d = device_of c.args.rec.now in
+    let f = c.args.frame in
+    (search rules, ruled d f _ c.requires.1.read 5 (λ x. sdc d f) c.in-5.is c.to_listener.ensures refl)
 
-returns-3 : tie.Need-returns-3
+returns-in-7 : tie.Need-returns-in-7
 unfolding choose
-returns-3 c =
-    let m = c.before.before in
-    let s = m.before.before in
-    let d = device_of s.args.rec.now in
-    let f = s.args.frame in
-    (search rules, ruled d f _ s.requires.1.read 7 (λ x. get d f) m.match.keys3 c.to-listener2.ensures refl)
+returns-in-7 c =
+    let d = device_of c.args.rec.now in
+    let f = c.args.frame in
+    (search rules, ruled d f _ c.requires.1.read 7 (λ x. get d f) c.in-7.is c.to_listener-in-7.ensures refl)
 
 pub command_spec : {M : Type 1} → statement M
 command_spec =
@@ -41,10 +36,10 @@ command_spec =
     (λ c κs. search rules)
     (λ c κs. search rules)
     (λ c κs. search rules)
-    returns
+    returns-in-9
     (λ c. search rules)
-    returns-2
+    returns-in-5
     (λ c. search rules)
-    returns-3
+    returns-in-7
     (λ c. search rules)
     (λ c. search rules))

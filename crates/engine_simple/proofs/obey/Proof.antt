@@ -13,146 +13,105 @@ use Rattle.engine_simple.proofs.obey.Tie as tie
 
 ppe-requires : tie.Need-ppe-requires
 ppe-requires c κs =
-    let m = c.before in
-    let s = m.before.before in
-    let e = s.requires.1.command.read in
-    (search rules, rw e (ppe_number s.args.frame (rw e at m.match.keys11)))
+    let e = c.requires.1.command.read in
+    (search rules, rw e (ppe_number c.args.frame (rw e at c.in-17.is)))
 
-returns : tie.Need-returns
+returns-in-12 : tie.Need-returns-in-12
 unfolding choose
-returns c =
-    let o = c.before.before in
-    let m = o.before.before in
-    let s = m.before.before in
-    let d = device_of s.args.rec.now in
-    let e = obeyed d _ _ s.requires.1.command.read 12 (lad d) m.match.keys1 o.lad.ensures.1 refl in
-    (o.lad.ensures.0, e)
+returns-in-12 c =
+    let d = device_of c.args.rec.now in
+    let e = obeyed d _ _ c.requires.1.command.read 12 (lad d) c.in-12.is c.lad.ensures.1 refl in
+    (c.lad.ensures.0, e)
 
-returns-2 : tie.Need-returns-2
+returns-in-13 : tie.Need-returns-in-13
 unfolding choose
-returns-2 c =
-    let o = c.before.before in
-    let m = o.before.before in
-    let s = m.before.before in
-    let d = device_of s.args.rec.now in
-    let e = obeyed d _ _ s.requires.1.command.read 13 (λ o. unl d) m.match.keys2 o.store.ensures.1 refl in
+returns-in-13 c =
+    let d = device_of c.args.rec.now in
+    let e = obeyed d _ _ c.requires.1.command.read 13 (λ o. unl d) c.in-13.is o.store.ensures.1 refl in
     (o.store.ensures.0, e)
 
-returns-3 : tie.Need-returns-3
+returns-in-14 : tie.Need-returns-in-14
 unfolding choose
-returns-3 c =
-    let o = c.before.before in
-    let m = o.before.before in
-    let s = m.before.before in
-    let d = device_of s.args.rec.now in
-    let e = obeyed d _ _ s.requires.1.command.read 14 (tad d) m.match.keys3 o.tad.ensures.1 refl in
-    (o.tad.ensures.0, e)
+returns-in-14 c =
+    let d = device_of c.args.rec.now in
+    let e = obeyed d _ _ c.requires.1.command.read 14 (tad d) c.in-14.is c.tad.ensures.1 refl in
+    (c.tad.ensures.0, e)
 
-returns-4 : tie.Need-returns-4
+returns-in-15 : tie.Need-returns-in-15
 unfolding choose
-returns-4 c =
-    let o = c.before.before in
-    let m = o.before.before in
-    let s = m.before.before in
-    let d = device_of s.args.rec.now in
-    let e = obeyed d _ _ s.requires.1.command.read 15 (λ o. unt d) m.match.keys4 o.talk.ensures.1 refl in
+returns-in-15 c =
+    let d = device_of c.args.rec.now in
+    let e = obeyed d _ _ c.requires.1.command.read 15 (λ o. unt d) c.in-15.is o.talk.ensures.1 refl in
     (o.talk.ensures.0, e)
 
-returns-5 : tie.Need-returns-5
+returns-in-18 : tie.Need-returns-in-18
 unfolding choose
-returns-5 c =
-    let o = c.before.before in
-    let m = o.before.before in
-    let s = m.before.before in
-    let d = device_of s.args.rec.now in
-    let e = obeyed d _ _ s.requires.1.command.read 18 (λ o. ifc d) m.match.keys5 o.ifc.ensures.1 refl in
+returns-in-18 c =
+    let d = device_of c.args.rec.now in
+    let e = obeyed d _ _ c.requires.1.command.read 18 (λ o. ifc d) c.in-18.is o.ifc.ensures.1 refl in
     (o.ifc.ensures.0, e)
 
-returns-6 : tie.Need-returns-6
+returns-in-21 : tie.Need-returns-in-21
 unfolding choose
-returns-6 c =
-    let o = c.before.before in
-    let m = o.before.before in
-    let s = m.before.before in
-    let d = device_of s.args.rec.now in
-    let e = obeyed d _ _ s.requires.1.command.read 21 (λ o. aau d) m.match.keys6 o.aau.ensures.1 refl in
+returns-in-21 c =
+    let d = device_of c.args.rec.now in
+    let e = obeyed d _ _ c.requires.1.command.read 21 (λ o. aau d) c.in-21.is o.aau.ensures.1 refl in
     (o.aau.ensures.0, e)
 
-returns-7 : tie.Need-returns-7
+returns-in-19 : tie.Need-returns-in-19
 unfolding choose
-returns-7 c =
-    let o = c.before.before in
-    let m = o.before.before in
-    let s = m.before.before in
-    let d = device_of s.args.rec.now in
-    let e = obeyed d _ _ s.requires.1.command.read 19 (λ o. ren d) m.match.keys7 o.ren.ensures.1 refl in
+returns-in-19 c =
+    let d = device_of c.args.rec.now in
+    let e = obeyed d _ _ c.requires.1.command.read 19 (λ o. ren d) c.in-19.is o.ren.ensures.1 refl in
     (o.ren.ensures.0, e)
 
-returns-8 : tie.Need-returns-8
+returns-in-20 : tie.Need-returns-in-20
 unfolding choose
-returns-8 c =
-    let o = c.before.before in
-    let m = o.before.before in
-    let s = m.before.before in
-    let d = device_of s.args.rec.now in
-    let e = obeyed d _ _ s.requires.1.command.read 20 (λ o. nre d) m.match.keys8 o.nre.ensures.1 refl in
+returns-in-20 c =
+    let d = device_of c.args.rec.now in
+    let e = obeyed d _ _ c.requires.1.command.read 20 (λ o. nre d) c.in-20.is o.nre.ensures.1 refl in
     (o.nre.ensures.0, e)
 
-returns-9 : tie.Need-returns-9
+returns-in-8 : tie.Need-returns-in-8
 unfolding choose
-returns-9 c =
-    let o = c.before.before in
-    let m = o.before.before in
-    let s = m.before.before in
-    let d = device_of s.args.rec.now in
-    let e = obeyed d _ _ s.requires.1.command.read 8 (λ o. llo d) m.match.keys9 o.llo.ensures.1 refl in
+returns-in-8 c =
+    let d = device_of c.args.rec.now in
+    let e = obeyed d _ _ c.requires.1.command.read 8 (λ o. llo d) c.in-8.is o.llo.ensures.1 refl in
     (o.llo.ensures.0, e)
 
-returns-10 : tie.Need-returns-10
+returns-in-4 : tie.Need-returns-in-4
 unfolding choose
-returns-10 c =
-    let o = c.before.before in
-    let m = o.before.before in
-    let s = m.before.before in
-    let d = device_of s.args.rec.now in
-    let e = obeyed d _ _ s.requires.1.command.read 4 (λ o. gtl d) m.match.keys10 o.gtl.ensures.1 refl in
+returns-in-4 c =
+    let d = device_of c.args.rec.now in
+    let e = obeyed d _ _ c.requires.1.command.read 4 (λ o. gtl d) c.in-4.is o.gtl.ensures.1 refl in
     (o.gtl.ensures.0, e)
 
-returns-11 : tie.Need-returns-11
+returns-in-17 : tie.Need-returns-in-17
 unfolding choose
-returns-11 c =
-    let o = c.before.before in
-    let m = o.before.before in
-    let s = m.before.before in
-    let d = device_of s.args.rec.now in
-    let e = obeyed d _ _ s.requires.1.command.read 17 (ppe d) m.match.keys11 o.ppe.ensures.1 refl in
-    (o.ppe.ensures.0, e)
+returns-in-17 c =
+    let d = device_of c.args.rec.now in
+    let e = obeyed d _ _ c.requires.1.command.read 17 (ppe d) c.in-17.is c.ppe.ensures.1 refl in
+    (c.ppe.ensures.0, e)
 
-returns-12 : tie.Need-returns-12
+returns-in-6 : tie.Need-returns-in-6
 unfolding choose
-returns-12 c =
-    let o = c.before.before in
-    let m = o.before.before in
-    let s = m.before.before in
-    let d = device_of s.args.rec.now in
-    let e = obeyed d _ _ s.requires.1.command.read 6 (λ o. ppd d) m.match.keys12 o.ppd.ensures.1 refl in
+returns-in-6 c =
+    let d = device_of c.args.rec.now in
+    let e = obeyed d _ _ c.requires.1.command.read 6 (λ o. ppd d) c.in-6.is o.ppd.ensures.1 refl in
     (o.ppd.ensures.0, e)
 
-returns-13 : tie.Need-returns-13
+returns-in-10 : tie.Need-returns-in-10
 unfolding choose
-returns-13 c =
-    let o = c.before.before in
-    let m = o.before.before in
-    let s = m.before.before in
-    let d = device_of s.args.rec.now in
-    let e = obeyed d _ _ s.requires.1.command.read 10 (λ o. ppu d) m.match.keys13 o.ppu.ensures.1 refl in
+returns-in-10 c =
+    let d = device_of c.args.rec.now in
+    let e = obeyed d _ _ c.requires.1.command.read 10 (λ o. ppu d) c.in-10.is o.ppu.ensures.1 refl in
     (o.ppu.ensures.0, e)
 
-returns-14 : tie.Need-returns-14
-returns-14 c =
-    let s = c.before.before in (
+returns-in_default : tie.Need-returns-in_default
+returns-in_default c =
+    (
       search rules,
-      passed_on (device_of s.args.rec.now) s.args.frame s.args.message s.requires.1.command.read (
+      passed_on (device_of c.args.rec.now) c.args.frame c.args.message c.requires.1.command.read (
         search rules,
         (
           search rules,
@@ -245,29 +204,29 @@ obey_spec =
     (λ c κs. search rules)
     (λ c κs. search rules)
     (λ c. search rules)
-    returns
+    returns-in-12
     (λ c. search rules)
-    returns-2
+    returns-in-13
     (λ c. search rules)
-    returns-3
+    returns-in-14
     (λ c. search rules)
-    returns-4
+    returns-in-15
     (λ c. search rules)
-    returns-5
+    returns-in-18
     (λ c. search rules)
-    returns-6
+    returns-in-21
     (λ c. search rules)
-    returns-7
+    returns-in-19
     (λ c. search rules)
-    returns-8
+    returns-in-20
     (λ c. search rules)
-    returns-9
+    returns-in-8
     (λ c. search rules)
-    returns-10
+    returns-in-4
     (λ c. search rules)
-    returns-11
+    returns-in-17
     (λ c. search rules)
-    returns-12
+    returns-in-6
     (λ c. search rules)
-    returns-13
-    returns-14)
+    returns-in-10
+    returns-in_default)

@@ -18,100 +18,76 @@ use Rattle.engine_simple.proofs.ready.Tie as tie
 
 aad-requires : tie.Need-aad-requires
 aad-requires c κs =
-    let m = c.before in
-    let s = m.before.before in
-    let e = s.requires.1.read in
-    (search rules, omega (arith, aad_codes s.args.frame (rw e at m.match.keys6)))
+    let e = c.requires.1.read in
+    (search rules, omega (arith, aad_codes c.args.frame (rw e at c.in-34.is)))
 
 identify-requires : tie.Need-identify-requires
 unfolding has_c1
 identify-requires c κs =
-    let m = c.before in
-    let s = m.before.before in
-    let t = ap has_c1 m.match.keys7 in
-    (search rules, t, few_c1 s.args.frame s.requires.1.read t)
+    let t = ap has_c1 c.in-42.is in
+    (search rules, t, few_c1 c.args.frame c.requires.1.read t)
 
-returns : tie.Need-returns
+returns-in-29 : tie.Need-returns-in-29
 unfolding choose
-returns c =
-    let o = c.before.before in
-    let m = o.before.before in
-    let s = m.before.before in
-    let d = device_of s.args.rec.now in
-    let f = s.args.frame in
+returns-in-29 c =
+    let d = device_of c.args.rec.now in
+    let f = c.args.frame in
     let rule : Message → Sent = λ x. requested d f send_data sending_data in
-    (o.requested.ensures.0, ruled d f _ s.requires.1.read 29 rule m.match.keys1 o.requested.ensures.1 refl)
+    (c.requested.ensures.0, ruled d f _ c.requires.1.read 29 rule c.in-29.is c.requested.ensures.1 refl)
 
-returns-2 : tie.Need-returns-2
+returns-in-30 : tie.Need-returns-in-30
 unfolding choose
-returns-2 c =
-    let o = c.before.before in
-    let m = o.before.before in
-    let s = m.before.before in
-    let d = device_of s.args.rec.now in
-    let f = s.args.frame in
+returns-in-30 c =
+    let d = device_of c.args.rec.now in
+    let f = c.args.frame in
     let rule : Message → Sent = λ x. sst d f in
-    (o.sst.ensures.0, ruled d f _ s.requires.1.read 30 rule m.match.keys2 o.sst.ensures.1 refl)
+    (c.sst.ensures.0, ruled d f _ c.requires.1.read 30 rule c.in-30.is c.sst.ensures.1 refl)
 
-returns-3 : tie.Need-returns-3
+returns-in-31 : tie.Need-returns-in-31
 unfolding choose
-returns-3 c =
-    let o = c.before.before in
-    let m = o.before.before in
-    let s = m.before.before in
-    let d = device_of s.args.rec.now in
-    let f = s.args.frame in
+returns-in-31 c =
+    let d = device_of c.args.rec.now in
+    let f = c.args.frame in
     let rule : Message → Sent = λ x. requested d f device_id sending_device_id in
-    let e = ruled d f _ s.requires.1.read 31 rule m.match.keys3 o.requested2.ensures.1 refl in
-    (o.requested2.ensures.0, e)
+    let e = ruled d f _ c.requires.1.read 31 rule c.in-31.is c.requested-in-31.ensures.1 refl in
+    (c.requested-in-31.ensures.0, e)
 
-returns-4 : tie.Need-returns-4
+returns-in-32 : tie.Need-returns-in-32
 unfolding choose
-returns-4 c =
-    let o = c.before.before in
-    let m = o.before.before in
-    let s = m.before.before in
-    let d = device_of s.args.rec.now in
-    let f = s.args.frame in
+returns-in-32 c =
+    let d = device_of c.args.rec.now in
+    let f = c.args.frame in
     let rule : Message → Sent = λ x. requested d f accessory_id sending_accessory_id in
-    let e = ruled d f _ s.requires.1.read 32 rule m.match.keys4 o.requested3.ensures.1 refl in
-    (o.requested3.ensures.0, e)
+    let e = ruled d f _ c.requires.1.read 32 rule c.in-32.is c.requested-in-32.ensures.1 refl in
+    (c.requested-in-32.ensures.0, e)
 
-returns-5 : tie.Need-returns-5
+returns-in-28 : tie.Need-returns-in-28
 unfolding choose
-returns-5 c =
-    let o = c.before.before in
-    let m = o.before.before in
-    let s = m.before.before in
-    let d = device_of s.args.rec.now in
-    let f = s.args.frame in
-    (o.nrd.ensures.0, obeyed d f _ s.requires.1.read 28 (λ y. nrd d) m.match.keys5 o.nrd.ensures.1 refl)
+returns-in-28 c =
+    let d = device_of c.args.rec.now in
+    let f = c.args.frame in
+    (c.nrd.ensures.0, obeyed d f _ c.requires.1.read 28 (λ y. nrd d) c.in-28.is c.nrd.ensures.1 refl)
 
-returns-6 : tie.Need-returns-6
+returns-in-34 : tie.Need-returns-in-34
 unfolding choose
-returns-6 c =
-    let o = c.before.before in
-    let m = o.before.before in
-    let s = m.before.before in
-    let d = device_of s.args.rec.now in
-    let f = s.args.frame in
+returns-in-34 c =
+    let d = device_of c.args.rec.now in
+    let f = c.args.frame in
     let rule : Message → Sent = λ x. aad d f x.offset in
-    (o.aad.ensures.0, ruled d f _ s.requires.1.read 34 rule m.match.keys6 o.aad.ensures.1 refl)
+    (c.aad.ensures.0, ruled d f _ c.requires.1.read 34 rule c.in-34.is c.aad.ensures.1 refl)
 
-returns-7 : tie.Need-returns-7
+returns-in-42 : tie.Need-returns-in-42
 unfolding choose
-returns-7 c =
-    let m = c.before.before in
-    let s = m.before.before in
-    let d = device_of s.args.rec.now in
-    let f = s.args.frame in
-    (search rules, ruled d f _ s.requires.1.read 42 (idy d) m.match.keys7 c.identify.ensures refl)
+returns-in-42 c =
+    let d = device_of c.args.rec.now in
+    let f = c.args.frame in
+    (search rules, ruled d f _ c.requires.1.read 42 (idy d) c.in-42.is c.identify.ensures refl)
 
-returns-8 : tie.Need-returns-8
-returns-8 c =
-    let s = c.before.before in (
+returns-in_default : tie.Need-returns-in_default
+returns-in_default c =
+    (
       search rules,
-      passed_on (device_of s.args.rec.now) s.args.frame s.args.message s.requires.1.read (
+      passed_on (device_of c.args.rec.now) c.args.frame c.args.message c.requires.1.read (
         search rules,
         (
           search rules,
@@ -198,17 +174,17 @@ ready_spec =
     aad-requires
     identify-requires
     (λ c. search rules)
-    returns
+    returns-in-29
     (λ c. search rules)
-    returns-2
+    returns-in-30
     (λ c. search rules)
-    returns-3
+    returns-in-31
     (λ c. search rules)
-    returns-4
+    returns-in-32
     (λ c. search rules)
-    returns-5
+    returns-in-28
     (λ c. search rules)
-    returns-6
+    returns-in-34
     (λ c. search rules)
-    returns-7
-    returns-8)
+    returns-in-42
+    returns-in_default)

@@ -26,33 +26,27 @@ has_c1 : (k : ℕ) → (k ≡ dab) ⊎ (k ≡ end) → has_c1 k ≡ true
 unfolding has_c1
 has_c1 k = ⊎_elim (λ e. ap has_c1 e) (λ e. ap has_c1 e)
 
-returns-3 : tie.Need-returns-3
+returns-then-kind-eq0 : tie.Need-returns-then-kind-eq0
 unfolding choose
-returns-3 c =
-    let s = c.before.before.before.before in
-    let d = device_of s.args.rec.now in
-    let f = s.args.frame in
-    (search rules, ruled d f _ s.requires.1 0 (λ x. sends d f) c.if3.true refl refl)
+returns-then-kind-eq0 c =
+    let d = device_of c.args.rec.now in
+    let f = c.args.frame in
+    (search rules, ruled d f _ c.requires.1 0 (λ x. sends d f) c.if-kind-eq0.true refl refl)
 
-data-or-end-requires : tie.Need-data-or-end-requires
-data-or-end-requires c κs =
-    let i = c.before in
-    let s = i.before.before.before.before in
-    let t = has_c1 s.args.message.kind (low _ i.before.if2.false i.if3.false) in
-    (search rules, s.requires.1, t)
+data_or_end-requires : tie.Need-data_or_end-requires
+data_or_end-requires c κs =
+    let t = has_c1 c.args.message.kind (low _ c.if-kind-gt-END.false c.if-kind-eq0.false) in
+    (search rules, c.requires.1, t)
 
-returns-4 : tie.Need-returns-4
+returns : tie.Need-returns
 unfolding choose
-returns-4 c =
-    let o = c.before.before in
-    let i = o.before.before in
-    let s = i.before.before.before.before in
-    let d = device_of s.args.rec.now in
-    let f = s.args.frame in
-    let e = o.data-or-end.ensures.1 in (
-      o.data-or-end.ensures.0,
-      ⊎_elim (λ k. ruled d f _ s.requires.1 dab (data_or_end d) k e refl)
-          (λ k. ruled d f _ s.requires.1 end (data_or_end d) k e refl) (low _ i.before.if2.false i.if3.false),
+returns c =
+    let d = device_of c.args.rec.now in
+    let f = c.args.frame in
+    let e = c.data_or_end.ensures.1 in (
+      c.data_or_end.ensures.0,
+      ⊎_elim (λ k. ruled d f _ c.requires.1 dab (data_or_end d) k e refl)
+          (λ k. ruled d f _ c.requires.1 end (data_or_end d) k e refl) (low _ c.if-kind-gt-END.false c.if-kind-eq0.false),
     )
 
 pub simple_spec : {M : Type 1} → statement M
@@ -65,7 +59,7 @@ simple_spec =
     (λ c κs. search rules)
     (λ c. search rules)
     (λ c. search rules)
-    returns-3
-    data-or-end-requires
+    returns-then-kind-eq0
+    data_or_end-requires
     (λ c. search rules)
-    returns-4)
+    returns)

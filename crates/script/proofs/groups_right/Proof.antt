@@ -33,7 +33,7 @@ returns-then-not-group_right c = let l = c.loop-left in
 sub_rest : tie.Need-slice_bounds-rest-count invariant-loop-left decreases-loop-left
 sub_rest c = let l = c.loop-left in omega (arith, l.invariant.long)
 
-part_rest_start : tie.Need-slice-bounds-rest-start invariant-loop-left decreases-loop-left
+part_rest_start : tie.Need-slice_bounds-rest-start invariant-loop-left decreases-loop-left
 part_rest_start c = let l = c.loop-left in omega (arith, l.invariant.long)
 
 loop-again : tie.Need-loop-left-preserved invariant-loop-left decreases-loop-left
