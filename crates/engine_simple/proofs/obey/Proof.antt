@@ -27,8 +27,8 @@ returns-in-13 : tie.Need-returns-in-13
 unfolding choose
 returns-in-13 c =
     let d = device_of c.args.rec.now in
-    let e = obeyed d _ _ c.requires.1.command.read 13 (λ o. unl d) c.in-13.is o.store.ensures.1 refl in
-    (o.store.ensures.0, e)
+    let e = obeyed d _ _ c.requires.1.command.read 13 (λ o. unl d) c.in-13.is c.store.ensures.1 refl in
+    (c.store.ensures.0, e)
 
 returns-in-14 : tie.Need-returns-in-14
 unfolding choose
@@ -41,50 +41,50 @@ returns-in-15 : tie.Need-returns-in-15
 unfolding choose
 returns-in-15 c =
     let d = device_of c.args.rec.now in
-    let e = obeyed d _ _ c.requires.1.command.read 15 (λ o. unt d) c.in-15.is o.talk.ensures.1 refl in
-    (o.talk.ensures.0, e)
+    let e = obeyed d _ _ c.requires.1.command.read 15 (λ o. unt d) c.in-15.is c.talk.ensures.1 refl in
+    (c.talk.ensures.0, e)
 
 returns-in-18 : tie.Need-returns-in-18
 unfolding choose
 returns-in-18 c =
     let d = device_of c.args.rec.now in
-    let e = obeyed d _ _ c.requires.1.command.read 18 (λ o. ifc d) c.in-18.is o.ifc.ensures.1 refl in
-    (o.ifc.ensures.0, e)
+    let e = obeyed d _ _ c.requires.1.command.read 18 (λ o. ifc d) c.in-18.is c.ifc.ensures.1 refl in
+    (c.ifc.ensures.0, e)
 
 returns-in-21 : tie.Need-returns-in-21
 unfolding choose
 returns-in-21 c =
     let d = device_of c.args.rec.now in
-    let e = obeyed d _ _ c.requires.1.command.read 21 (λ o. aau d) c.in-21.is o.aau.ensures.1 refl in
-    (o.aau.ensures.0, e)
+    let e = obeyed d _ _ c.requires.1.command.read 21 (λ o. aau d) c.in-21.is c.aau.ensures.1 refl in
+    (c.aau.ensures.0, e)
 
 returns-in-19 : tie.Need-returns-in-19
 unfolding choose
 returns-in-19 c =
     let d = device_of c.args.rec.now in
-    let e = obeyed d _ _ c.requires.1.command.read 19 (λ o. ren d) c.in-19.is o.ren.ensures.1 refl in
-    (o.ren.ensures.0, e)
+    let e = obeyed d _ _ c.requires.1.command.read 19 (λ o. ren d) c.in-19.is c.ren.ensures.1 refl in
+    (c.ren.ensures.0, e)
 
 returns-in-20 : tie.Need-returns-in-20
 unfolding choose
 returns-in-20 c =
     let d = device_of c.args.rec.now in
-    let e = obeyed d _ _ c.requires.1.command.read 20 (λ o. nre d) c.in-20.is o.nre.ensures.1 refl in
-    (o.nre.ensures.0, e)
+    let e = obeyed d _ _ c.requires.1.command.read 20 (λ o. nre d) c.in-20.is c.nre.ensures.1 refl in
+    (c.nre.ensures.0, e)
 
 returns-in-8 : tie.Need-returns-in-8
 unfolding choose
 returns-in-8 c =
     let d = device_of c.args.rec.now in
-    let e = obeyed d _ _ c.requires.1.command.read 8 (λ o. llo d) c.in-8.is o.llo.ensures.1 refl in
-    (o.llo.ensures.0, e)
+    let e = obeyed d _ _ c.requires.1.command.read 8 (λ o. llo d) c.in-8.is c.llo.ensures.1 refl in
+    (c.llo.ensures.0, e)
 
 returns-in-4 : tie.Need-returns-in-4
 unfolding choose
 returns-in-4 c =
     let d = device_of c.args.rec.now in
-    let e = obeyed d _ _ c.requires.1.command.read 4 (λ o. gtl d) c.in-4.is o.gtl.ensures.1 refl in
-    (o.gtl.ensures.0, e)
+    let e = obeyed d _ _ c.requires.1.command.read 4 (λ o. gtl d) c.in-4.is c.gtl.ensures.1 refl in
+    (c.gtl.ensures.0, e)
 
 returns-in-17 : tie.Need-returns-in-17
 unfolding choose
@@ -97,15 +97,15 @@ returns-in-6 : tie.Need-returns-in-6
 unfolding choose
 returns-in-6 c =
     let d = device_of c.args.rec.now in
-    let e = obeyed d _ _ c.requires.1.command.read 6 (λ o. ppd d) c.in-6.is o.ppd.ensures.1 refl in
-    (o.ppd.ensures.0, e)
+    let e = obeyed d _ _ c.requires.1.command.read 6 (λ o. ppd d) c.in-6.is c.ppd.ensures.1 refl in
+    (c.ppd.ensures.0, e)
 
 returns-in-10 : tie.Need-returns-in-10
 unfolding choose
 returns-in-10 c =
     let d = device_of c.args.rec.now in
-    let e = obeyed d _ _ c.requires.1.command.read 10 (λ o. ppu d) c.in-10.is o.ppu.ensures.1 refl in
-    (o.ppu.ensures.0, e)
+    let e = obeyed d _ _ c.requires.1.command.read 10 (λ o. ppu d) c.in-10.is c.ppu.ensures.1 refl in
+    (c.ppu.ensures.0, e)
 
 returns-in_default : tie.Need-returns-in_default
 returns-in_default c =

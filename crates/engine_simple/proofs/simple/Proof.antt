@@ -22,9 +22,9 @@ low k h z = go (dec_lt k 2)
     go (yes i) = inl (omega arith)
     go (no i) = inr (omega arith)
 
-has_c1 : (k : ℕ) → (k ≡ dab) ⊎ (k ≡ end) → has_c1 k ≡ true
+has_c1_lem : (k : ℕ) → (k ≡ dab) ⊎ (k ≡ end) → has_c1 k ≡ true
 unfolding has_c1
-has_c1 k = ⊎_elim (λ e. ap has_c1 e) (λ e. ap has_c1 e)
+has_c1_lem k = ⊎_elim (λ e. ap has_c1 e) (λ e. ap has_c1 e)
 
 returns-then-kind-eq0 : tie.Need-returns-then-kind-eq0
 unfolding choose
@@ -35,7 +35,7 @@ returns-then-kind-eq0 c =
 
 data_or_end-requires : tie.Need-data_or_end-requires
 data_or_end-requires c κs =
-    let t = has_c1 c.args.message.kind (low _ c.if-kind-gt-END.false c.if-kind-eq0.false) in
+    let t = has_c1_lem c.args.message.kind (low _ c.if-kind-gt-END.false c.if-kind-eq0.false) in
     (search rules, c.requires.1, t)
 
 returns : tie.Need-returns

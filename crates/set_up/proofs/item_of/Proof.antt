@@ -8,8 +8,7 @@ use Rattle.set_up.proofs.item_of.Tie as tie
 
 returns : tie.Need-returns
 returns c =
-    let s = c.before.before.before.before in
-    c.before.copy.ensures.1 ∙ padded_is s.args.bytes.now long_item_size s.requires
+    c.copy.ensures.1 ∙ padded_is c.args.bytes.now long_item_size c.requires
 
 pub item_of_spec : {M : Type 1} → statement M
 item_of_spec =

@@ -11,7 +11,7 @@ item_width_spec =
     tie.close
     (tie.spec
     (λ c. search rules)
-    (λ c. rw (eq-eqb _ _ c.if1.true))
+    (λ c. rw (eq-eqb _ _ c.if-bytes-n.true))
     (λ c. search rules)
-    (λ c. rw (ne_eqb _ _ c.before.if1.false, eq-eqb _ _ c.if2.true))
-    (λ c. rw (ne_eqb _ _ c.before.if1.false, ne_eqb _ _ c.if2.false)))
+    (λ c. rw (ne_eqb _ _ c.if-bytes-n.false, eq-eqb _ _ c.if-bytes-n-2.true))
+    (λ c. rw (ne_eqb _ _ c.if-bytes-n.false, ne_eqb _ _ c.if-bytes-n-2.false)))

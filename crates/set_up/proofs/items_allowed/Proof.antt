@@ -11,80 +11,72 @@ use borrow.Author.Rules.{rules}
 use Rattle.set_up.proofs.items_allowed.Statement.{statement}
 use Rattle.set_up.proofs.items_allowed.Tie as tie
 
-abbrev invariant-loop : tie.invariant-loop
-invariant-loop items n width rest₀ left₀ rest left = Rest allowed width n items left rest
+abbrev invariant-loop-left : tie.invariant-loop-left
+invariant-loop-left items n width rest₀ left₀ rest left = Rest allowed width n items left rest
 
-abbrev decreases-loop : tie.decreases-loop
-decreases-loop items n width rest₀ left₀ rest left = left
+abbrev decreases-loop-left : tie.decreases-loop-left
+decreases-loop-left items n width rest₀ left₀ rest left = left
 
-loop-holds : tie.Need-loop-init invariant-loop decreases-loop
+loop-holds : tie.Need-loop-left-init invariant-loop-left decreases-loop-left
 loop-holds c =
-    let s = c.before.before in
-    let a = width_all (length s.args.items.now) s.args.n s.requires.1 in
-    record { long = rw c.item-width.ensures (omega (arith, a)); same = refl }
+    let a = width_all (length c.args.items.now) c.args.n c.requires.1 in
+    record { long = rw c.item_width-width.ensures (omega (arith, a)); same = refl }
 
 -- the next item is there
-long : (c : tie.In-loop invariant-loop decreases-loop) →
-    let w = c.before.before.item-width.result in length (take w c.before.loop.rest.now) ≡ w
+long : (c : tie.In-loop-left invariant-loop-left decreases-loop-left) →
+    let w = c.item_width-width.result in length (take w c.loop-left.rest.now) ≡ w
 long c =
-    let l = c.before.loop in
+    let l = c.loop-left in
     length-take-le _ l.rest.now (there allowed _ _ _ l.left l.rest.now l.invariant (omega arith))
 
-item-of-requires : tie.Need-item-of-requires invariant-loop decreases-loop
-item-of-requires c κs = rw (long c.before, c.before.before.before.item-width.ensures) (width_few _ _)
+item_of-requires : tie.Need-item_of-requires invariant-loop-left decreases-loop-left
+item_of-requires c κs = rw (long c.before, c.item_width-width.ensures) (width_few _ _)
 
 -- and is judged as one of 14 bytes
-judged : (c : tie.After-item-allowed invariant-loop decreases-loop) →
-    let o = c.before.before in
-    let i = o.before.before in
-    c.item-allowed.result ≡ allowed (take i.before.before.item-width.result i.before.loop.rest.now)
-judged c = c.item-allowed.ensures ∙ ap allowed c.before.before.item_of.ensures ∙ padded_allowed _
+judged : (c : tie.After-item_allowed invariant-loop-left decreases-loop-left) →
+    c.item_allowed.result ≡ allowed (take c.item_width-width.result c.loop-left.rest.now)
+judged c = c.item_allowed.ensures ∙ ap allowed c.item_of.ensures ∙ padded_allowed _
 
-returns : tie.Need-returns invariant-loop decreases-loop
-returns c =
-    let a = c.before in
-    let b = a.before.before.before.before.before in
-    let l = b.loop in
-    rw (← b.before.item-width.ensures)
-    (fails allowed _ _ _ l.left l.rest.now _ l.invariant (omega arith) (judged a) c.if1.true)
+returns-then-not-item_allowed : tie.Need-returns-then-not-item_allowed invariant-loop-left decreases-loop-left
+returns-then-not-item_allowed c =
+    let l = c.loop-left in
+    rw (← c.item_width-width.ensures)
+    (fails allowed _ _ _ l.left l.rest.now _ l.invariant (omega arith) (judged c.before) c.if-not-item_allowed.true-raw)
 
 -- so that the rest is behind it
-behind : (c : tie.Else1 invariant-loop decreases-loop) →
-    let b = c.before.before.before.before.before.before in
-    b.before.item-width.result ≤ length b.loop.rest.now
+behind : (c : tie.Else-not-item_allowed invariant-loop-left decreases-loop-left) →
+    c.item_width-width.result ≤ length c.loop-left.rest.now
 behind c =
-    let l = c.before.before.before.before.before.before.loop in
+    let l = c.loop-left in
     there allowed _ _ _ l.left l.rest.now l.invariant (omega arith)
 
-loop-again : tie.Need-loop-preserved invariant-loop decreases-loop
+loop-again : tie.Need-loop-left-preserved invariant-loop-left decreases-loop-left
 loop-again c =
-    let a = c.before.before in
-    let l = a.before.before.before.before.before.loop in
-    next allowed _ _ _ l.left l.rest.now _ l.invariant (omega arith) (judged a) c.before.if1.false
+    let l = c.loop-left in
+    next allowed _ _ _ l.left l.rest.now _ l.invariant (omega arith) (judged c.before.before) c.if-not-item_allowed.false-raw
 
-returns-2 : tie.Need-returns-2 invariant-loop decreases-loop
-returns-2 c =
-    let b = c.before in
-    let l = b.loop in
-    rw (← b.before.item-width.ensures) (ends allowed _ _ _ l.left l.rest.now l.invariant (omega arith))
+returns : tie.Need-returns invariant-loop-left decreases-loop-left
+returns c =
+    let l = c.loop-left in
+    rw (← c.item_width-width.ensures) (ends allowed _ _ _ l.left l.rest.now l.invariant (omega arith))
 
 pub items_allowed_spec : {M : Type 1} → statement M
 items_allowed_spec =
     tie.close
     (tie.spec
-    invariant-loop
-    decreases-loop
+    invariant-loop-left
+    decreases-loop-left
     (λ c κs. search rules)
     loop-holds
     (λ c. sym (long c.before))
-    item-of-requires
+    item_of-requires
     (λ c. search rules)
     (λ c κs. search rules)
-    returns
+    returns-then-not-item_allowed
     behind
     (λ c. omega (arith, behind c))
     (λ c. search rules)
     (λ c. search rules)
     (λ c. search rules)
     loop-again
-    returns-2)
+    returns)

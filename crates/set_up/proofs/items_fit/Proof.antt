@@ -11,34 +11,34 @@ use borrow.Author.Rules.{rules}
 use Rattle.set_up.proofs.items_fit.Statement.{statement}
 use Rattle.set_up.proofs.items_fit.Tie as tie
 
-returns : tie.Need-returns
+returns-then-not-is_count : tie.Need-returns-then-not-is_count
 unfolding items_fit
-returns c = let k = c.before in simp (← k.is-count.ensures, not-true k.is-count.result c.if1.true)
+returns-then-not-is_count c = simp (← c.is_count.ensures, not-true c.is_count.result c.if-not-is_count.true-raw)
 
 -- past the first test a loop can have so many
-counted : (c : tie.Else1) → is_count most_devices c.before.before.before.before.args.n ≡ true
-counted c = sym c.before.is-count.ensures ∙ not-false c.before.is-count.result c.if1.false
+counted : (c : tie.Else-not-is_count) → is_count most_devices c.args.n ≡ true
+counted c = sym c.is_count.ensures ∙ not-false c.is_count.result c.if-not-is_count.false-raw
 
-few : (c : tie.Else1) → c.before.before.before.before.args.n ≤ most_devices
-few c = few_counted most_devices c.before.before.before.before.args.n (counted c)
+few : (c : tie.Else-not-is_count) → c.args.n ≤ most_devices
+few c = few_counted most_devices c.args.n (counted c)
 
-area-size-requires : tie.Need-area-size-requires
-area-size-requires c κs = omega (arith, few c)
+area_size-requires : tie.Need-area_size-requires
+area_size-requires c κs = omega (arith, few c)
 
-is-items-requires : tie.Need-is-items-requires
-is-items-requires c κs = few c.before
+is_items-requires : tie.Need-is_items-requires
+is_items-requires c κs = few c.before
 
-returns-2 : tie.Need-returns-2
+returns : tie.Need-returns
 unfolding items_fit
-returns-2 c =
-    let a = c.before in rw (counted a.before, a.area-size.ensures, c.is-items.ensures)
+returns c =
+    rw (counted c.before.before, c.area_size.ensures, c.is_items.ensures)
 
 pub items_fit_spec : {M : Type 1} → statement M
 items_fit_spec =
     tie.close
     (tie.spec
     (λ c κs. search rules)
-    returns
-    area-size-requires
-    is-items-requires
-    returns-2)
+    returns-then-not-is_count
+    area_size-requires
+    is_items-requires
+    returns)

@@ -19,23 +19,20 @@ use borrow.Author.Rules.{rules}
 use Rattle.set_up.proofs.power_on.Statement.{statement}
 use Rattle.set_up.proofs.power_on.Tie as tie
 
-abbrev invariant-loop : tie.invariant-loop
-invariant-loop area₀ items n width i₀ area i = (i ≤ n) × Holds area (at_item n items i) × (length area ≡ length area₀)
+abbrev invariant-loop-i : tie.invariant-loop-i
+invariant-loop-i area₀ items n width i₀ area i = (i ≤ n) × Holds area (at_item n items i) × (length area ≡ length area₀)
 
-abbrev decreases-loop : tie.decreases-loop
-decreases-loop area₀ items n width i₀ area i = n - i
+abbrev decreases-loop-i : tie.decreases-loop-i
+decreases-loop-i area₀ items n width i₀ area i = n - i
 
-blank-requires : tie.Need-blank-requires invariant-loop decreases-loop
+blank-requires : tie.Need-blank-requires invariant-loop-i decreases-loop-i
 blank-requires c κs =
-    let s = c.before.before.before in
-    let p = s.requires.fit in
+    let p = c.requires.fit in
     (p.some, p.few, p.area)
 
-loop-holds : tie.Need-loop-init invariant-loop decreases-loop
+loop-holds : tie.Need-loop-i-init invariant-loop-i decreases-loop-i
 loop-holds c =
-    let k = c.before.before.before in
-    let s = k.before.before.before.before in
-    (omega arith, rw (← (first_item s.args.n s.args.items.now)) k.blank.ensures, refl)
+    (omega arith, rw (← (first_item c.args.n c.args.items.now)) c.blank.ensures, refl)
 
 -- item i, of w bytes, lies within the items
 record Item (w i : ℕ) (items : List ℕ) : Type 0 where
@@ -43,98 +40,78 @@ record Item (w i : ℕ) (items : List ℕ) : Type 0 where
   times : w * i ≤ 14 * i
   within : w * i + w ≤ length items
 
-item : (c : tie.In-loop invariant-loop decreases-loop) →
-    let b = c.before in
-    Item b.before.item-width.result b.loop.i
-    b.before.before.before.before.before.before.before.before.args.items.now
+item : (c : tie.In-loop-i invariant-loop-i decreases-loop-i) →
+    Item c.item_width-width.result c.loop-i.i
+    c.args.items.now
 item c =
-    let b = c.before in
-    let s = b.before.before.before.before.before.before.before.before in
-    let i = b.loop.i in
-    let n = s.args.n in
-    let l = length s.args.items.now in
-    rw b.before.item-width.ensures
+    let i = c.loop-i.i in
+    let n = c.args.n in
+    let l = length c.args.items.now in
+    rw c.item_width-width.ensures
     (record {
       few = width_few l n;
       times = width_times l n i;
-      within = omega (arith, item_within (item_width l n) i n (omega arith), width_all l n s.requires.fit.items);
+      within = omega (arith, item_within (item_width l n) i n (omega arith), width_all l n c.requires.fit.items);
     })
 
-item-of-requires : tie.Need-item-of-requires invariant-loop decreases-loop
-item-of-requires c κs =
-    let b = c.before.before in
-    let s = b.before.before.before.before.before.before.before.before in
-    let w = b.before.item-width.result in
-    let at = w * b.loop.i in
+item_of-item-requires : tie.Need-item_of-item-requires invariant-loop-i decreases-loop-i
+item_of-item-requires c κs =
+    let w = c.item_width-width.result in
+    let at = w * c.loop-i.i in
     let h = item c.before in
-    let long = length-take-le w (drop at s.args.items.now) (simp length-drop (omega (arith, h))) in
+    let long = length-take-le w (drop at c.args.items.now) (simp length-drop (omega (arith, h))) in
     rw (add-sub_cancel_left at w, long) h.few
 
 -- the device that is made is that of the item
-made : (c : tie.After-power-on invariant-loop decreases-loop) →
-    let b = c.before.before.before.before.before in
-    let s = b.before.before.before.before.before.before.before.before in
-    let w = item_width (length s.args.items.now) s.args.n in
-    c.power-on.result ≡ power_on (part (w * b.loop.i) w s.args.items.now)
+made : (c : tie.After-power_on invariant-loop-i decreases-loop-i) →
+    let w = item_width (length c.args.items.now) c.args.n in
+    c.power_on.result ≡ power_on (part (w * c.loop-i.i) w c.args.items.now)
 made c =
-    let u = c.before.before in
-    let b = u.before.before.before in
-    let s = b.before.before.before.before.before.before.before.before in
-    let w = b.before.item-width.result in
-    rw (← b.before.item-width.ensures)
-    (c.power-on.ensures
-    ∙ ap power_on (u.item_of.ensures ∙ ap (bytes_from 0 long_item_size)
-    (lent_is (w * b.loop.i) (w * b.loop.i) w s.args.items.now refl))
+    let w = c.item_width-width.result in
+    rw (← c.item_width-width.ensures)
+    (c.power_on.ensures
+    ∙ ap power_on (c.item_of-item.ensures ∙ ap (bytes_from 0 long_item_size)
+    (lent_is (w * c.loop-i.i) (w * c.loop-i.i) w c.args.items.now refl))
     ∙ padded_powered _)
 
-set-device-requires : tie.Need-set-device-requires invariant-loop decreases-loop
-set-device-requires c κs =
-    let b = c.before.before.before.before.before in
-    let z = b.before.before.before.before.before.before in
-    let s = z.before.before in
-    let l = b.loop in
+set_device-requires : tie.Need-set_device-requires invariant-loop-i decreases-loop-i
+set_device-requires c κs =
+    let l = c.loop-i in
     let h = l.invariant.1 in
-    let items = s.args.items.now in (
-      record { judged = h.judged; there = rw (h.held, size_at s.args.n items l.i l.invariant.0) (omega arith) },
-      rw (made c) (item_good s.args.n items (λ k. (z.shared-slice-known.given k).fits) s.requires.each l.i
+    let items = c.args.items.now in (
+      record { judged = h.judged; there = rw (h.held, size_at c.args.n items l.i l.invariant.0) (omega arith) },
+      rw (made c) (item_good c.args.n items (λ k. (c.shared_slice_known-1.given k).fits) c.requires.each l.i
           (omega arith)),
     )
 
-loop-again : tie.Need-loop-preserved invariant-loop decreases-loop
+loop-again : tie.Need-loop-i-preserved invariant-loop-i decreases-loop-i
 loop-again c =
-    let d = c.before.before in
-    let q = d.before in
-    let b = q.before.before.before.before.before in
-    let s = b.before.before.before.before.before.before.before.before in
-    let l = b.loop in (
+    let l = c.loop-i in (
       omega arith,
       rw (
         l.invariant.1.held,
-        made q,
-        next_item s.args.n s.args.items.now l.i (omega arith),
+        made c.before.before.before,
+        next_item c.args.n c.args.items.now l.i (omega arith),
         ← (add-one l.i),
-      ) at d.set-device.ensures,
-      d.set-device.auto.0 ∙ l.invariant.2,
+      ) at c.set_device.ensures,
+      c.set_device.auto.area ∙ l.invariant.2,
     )
 
-same_length : tie.Need-same-length invariant-loop decreases-loop
+same_length : tie.Need-shape_of-area invariant-loop-i decreases-loop-i
 same_length c =
-    let b = c.before in
-    b.loop.invariant.2 ∙ b.before.before.before.before.blank.auto.0
+    c.loop-i.invariant.2 ∙ c.blank.auto.area
 
-returns : tie.Need-returns invariant-loop decreases-loop
+returns : tie.Need-returns invariant-loop-i decreases-loop-i
 returns c =
-    let b = c.before in
-    let s = b.before.before.before.before.before.before.before.before in
-    let l = b.loop in
-    rw (last_item s.args.n s.args.items.now l.i (omega arith)) at l.invariant.1
+    let l = c.loop-i in
+    rw (last_item c.args.n c.args.items.now l.i (omega arith)) at l.invariant.1
 
 pub power_on_spec : {M : Type 1} → statement M
 power_on_spec =
     tie.close
     (tie.spec
-    invariant-loop
-    decreases-loop
+    invariant-loop-i
+    decreases-loop-i
     blank-requires
     (λ c κs. search rules)
     loop-holds
@@ -143,9 +120,9 @@ power_on_spec =
     (λ c. search rules)
     (λ c. omega (arith, item c))
     (λ c. omega (arith, item c))
-    item-of-requires
+    item_of-item-requires
     (λ c κs. search rules)
-    set-device-requires
+    set_device-requires
     (λ c. search rules)
     (λ c. search rules)
     loop-again

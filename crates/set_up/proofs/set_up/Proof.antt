@@ -8,61 +8,37 @@ use borrow.Author.Rules.{rules}
 use Rattle.set_up.proofs.set_up.Statement.{statement}
 use Rattle.set_up.proofs.set_up.Tie as tie
 
-returns : tie.Need-returns
-returns c =
-    let f = c.before in
-    let n = f.before.before in
-    let s = n.before.before.before in
-    rw (set_shape s.args.area.now s.args.items.now _ n.devices-for.ensures
-    (sym f.items_fit.ensures ∙ not-true _ c.if1.true)) (refl, refl)
+returns-then-not-items_fit : tie.Need-returns-then-not-items_fit
+returns-then-not-items_fit c =
+    rw (set_shape c.args.area.now c.args.items.now _ c.devices_for-n.ensures
+    (sym c.items_fit.ensures ∙ not-true _ c.if-not-items_fit.true-raw)) (refl, refl)
 
-items-allowed-requires : tie.Need-items-allowed-requires
-items-allowed-requires c κs =
-    let f = c.before in
-    let n = f.before.before in
-    let s = n.before.before.before in
-    let p = items_fit most_devices n.devices-for.result s.args.area.now s.args.items.now
-    (sym f.items_fit.ensures ∙ not-false _ c.if1.false) in
+items_allowed-requires : tie.Need-items_allowed-requires
+items_allowed-requires c κs =
+    let p = items_fit most_devices c.devices_for-n.result c.args.area.now c.args.items.now
+    (sym c.items_fit.ensures ∙ not-false _ c.if-not-items_fit.false-raw) in
     (p.few, p.items)
 
-returns-2 : tie.Need-returns-2
-returns-2 c =
-    let b = c.before in
-    let i = b.before in
-    let f = i.before in
-    let n = f.before.before in
-    let s = n.before.before.before in
-    rw (set_unsound s.args.area.now s.args.items.now _ n.devices-for.ensures
-    (sym f.items_fit.ensures ∙ not-false _ i.if1.false)
-    (sym b.items-allowed.ensures ∙ not-true _ c.if2.true)) (refl, refl)
+returns-then-not-items_allowed : tie.Need-returns-then-not-items_allowed
+returns-then-not-items_allowed c =
+    rw (set_unsound c.args.area.now c.args.items.now _ c.devices_for-n.ensures
+    (sym c.items_fit.ensures ∙ not-false _ c.if-not-items_fit.false-raw)
+    (sym c.items_allowed.ensures ∙ not-true _ c.if-not-items_allowed.true-raw)) (refl, refl)
 
-power-on-requires : tie.Need-power-on-requires
-power-on-requires c κs =
-    let k = c.before in
-    let b = k.before in
-    let i = b.before in
-    let f = i.before in
-    let n = f.before.before in
-    let s = n.before.before.before in
+power_on-requires : tie.Need-power_on-requires
+power_on-requires c κs =
     record {
-      fit = items_fit most_devices n.devices-for.result s.args.area.now s.args.items.now
-          (sym f.items_fit.ensures ∙ not-false _ i.if1.false);
-      each = sym b.items-allowed.ensures ∙ not-false _
-          k.if2.false;
+      fit = items_fit most_devices c.devices_for-n.result c.args.area.now c.args.items.now
+          (sym c.items_fit.ensures ∙ not-false _ c.if-not-items_fit.false-raw);
+      each = sym c.items_allowed.ensures ∙ not-false _
+          c.if-not-items_allowed.false-raw;
     }
 
-returns-3 : tie.Need-returns-3
-returns-3 c =
-    let q = c.before.before in
-    let k = q.before.before in
-    let b = k.before in
-    let i = b.before in
-    let f = i.before in
-    let n = f.before.before in
-    let s = n.before.before.before in
-    rw (set_done s.args.area.now s.args.items.now _ n.devices-for.ensures
-    (sym f.items_fit.ensures ∙ not-false _ i.if1.false)
-    (sym b.items-allowed.ensures ∙ not-false _ k.if2.false)) (refl, q.power-on.ensures.written)
+returns : tie.Need-returns
+returns c =
+    rw (set_done c.args.area.now c.args.items.now _ c.devices_for-n.ensures
+    (sym c.items_fit.ensures ∙ not-false _ c.if-not-items_fit.false-raw)
+    (sym c.items_allowed.ensures ∙ not-false _ c.if-not-items_allowed.false-raw)) (refl, c.power_on.ensures.written)
 
 pub set_up_spec : {M : Type 1} → statement M
 set_up_spec =
@@ -71,10 +47,10 @@ set_up_spec =
     (λ c κs. search rules)
     (λ c κs. search rules)
     (λ c. search rules)
-    returns
-    items-allowed-requires
+    returns-then-not-items_fit
+    items_allowed-requires
     (λ c. search rules)
-    returns-2
-    power-on-requires
+    returns-then-not-items_allowed
+    power_on-requires
     (λ c. search rules)
-    returns-3)
+    returns)

@@ -9,17 +9,14 @@ use Rattle.taker.proofs.take_in.Tie as tie
 -- the last frame sent, read from the record, is the record's
 take-requires : tie.Need-take-requires
 take-requires c κs =
-    let r = c.before in
-    let s = r.before.before.before in (
-      s.requires.0,
-      record { past = omega (arith, s.requires.1.past, ap (λ (d : Device). d.last) r.read.ensures) },
+    (
+      c.requires.0,
+      record { past = omega (arith, c.requires.1.past, ap (λ (d : Device). d.last) c.read.ensures) },
     )
 
 returns : tie.Need-returns
 returns c =
-    let t = c.before.before in
-    let r = t.before.before in
-    rw r.read.ensures at t.take.ensures
+    rw c.read.ensures at c.take.ensures
 
 pub take_in_spec : {M : Type 1} → statement M
 take_in_spec = tie.close (tie.spec (λ c κs. search rules) take-requires (λ c. search rules) returns)

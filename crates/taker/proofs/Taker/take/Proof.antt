@@ -12,77 +12,52 @@ use Rattle.taker.proofs.InPlace.{put_in}
 use Rattle.taker.proofs.Taker.take.Statement.{statement}
 use Rattle.taker.proofs.Taker.take.Tie as tie
 
-returns : tie.Need-returns
-returns c =
-    let p = c.before.before in
-    let k = p.before.before in
-    let s = k.before.before.before.before.before in
-    put_in s.args.rec.now _ k.data-or-end.result _ _
-    (record { is = k.data-or-end.ensures; bytes = s.requires.0 }) p.put_back.ensures.0 p.put_back.ensures.1
+returns-then-frame-lt-COMMANDS : tie.Need-returns-then-frame-lt-COMMANDS
+returns-then-frame-lt-COMMANDS c =
+    put_in c.args.rec.now _ c.data_or_end.result _ _
+    (record { is = c.data_or_end.ensures; bytes = c.requires.0 }) c.put_back.ensures.0 c.put_back.ensures.1
 
 own-requires : tie.Need-own-requires
 own-requires c κs =
-    let i = c.before in
-    let s = i.before.before.before.before.before.before.before in
-    let x = has_further (device_of s.args.rec.now) extended in
-    (s.requires.0, search rules, search rules, right x _ (sym i.before.owns.ensures ∙ i.if3.true))
+    let x = has_further (device_of c.args.rec.now) extended in
+    (c.requires.0, search rules, search rules, right x _ (sym c.owns.ensures ∙ c.if-owns.true))
 
-returns-2 : tie.Need-returns-2
-returns-2 c =
-    let p = c.before.before in
-    let k = p.before.before.before.before in
-    let i = k.before.before in
-    let o = k.own.ensures in
-    let s = i.before.before.before.before.before.before.before in
-    let x = left (has_further (device_of s.args.rec.now) extended) _
-    (sym i.before.owns.ensures ∙ i.if3.true) in
-    put_in _ _ k.own.result _ _ (record { is = o.is ∙ sym (extended-own _ _ x); bytes = o.bytes })
-    p.put-back2.ensures.0 p.put-back2.ensures.1
+returns-then-owns : tie.Need-returns-then-owns
+returns-then-owns c =
+    let o = c.own.ensures in
+    let x = left (has_further (device_of c.args.rec.now) extended) _
+    (sym c.owns.ensures ∙ c.if-owns.true) in
+    put_in _ _ c.own.result _ _ (record { is = o.is ∙ sym (extended-own _ _ x); bytes = o.bytes })
+    c.put_back-then-owns.ensures.0 c.put_back-then-owns.ensures.1
 
-returns-3 : tie.Need-returns-3
-returns-3 c =
-    let p = c.before.before in
-    let k = p.before.before in
-    let h = k.before.before.before.before.before in
-    let i = h.before.before in
-    let s = i.before.before.before.before.before.before.before in
-    put_in _ _ k.command.result _ _
-    (begun s.args.rec.now s.args.frame h.heed.ensures _ k.command.result
-    (sym i.before.owns.ensures ∙ i.if3.false) k.command.ensures)
-    p.put-back3.ensures.0 p.put-back3.ensures.1
+returns-then-frame-lt-READY : tie.Need-returns-then-frame-lt-READY
+returns-then-frame-lt-READY c =
+    put_in _ _ c.command.result _ _
+    (begun c.args.rec.now c.args.frame c.heed.ensures _ c.command.result
+    (sym c.owns.ensures ∙ c.if-owns.false) c.command.ensures)
+    c.put_back-then-frame-lt-READY.ensures.0 c.put_back-then-frame-lt-READY.ensures.1
 
-returns-4 : tie.Need-returns-4
-returns-4 c =
-    let p = c.before.before in
-    let k = p.before.before in
-    let h = k.before.before.before.before.before in
-    let i = h.before.before in
-    let s = i.before.before.before.before.before.before.before in
-    put_in _ _ k.ready.result _ _
-    (begun s.args.rec.now s.args.frame h.heed.ensures _ k.ready.result
-    (sym i.before.owns.ensures ∙ i.if3.false) k.ready.ensures)
-    p.put-back4.ensures.0 p.put-back4.ensures.1
+returns-then-frame-lt-IDENTIFY : tie.Need-returns-then-frame-lt-IDENTIFY
+returns-then-frame-lt-IDENTIFY c =
+    put_in _ _ c.ready.result _ _
+    (begun c.args.rec.now c.args.frame c.heed.ensures _ c.ready.result
+    (sym c.owns.ensures ∙ c.if-owns.false) c.ready.ensures)
+    c.put_back-then-frame-lt-IDENTIFY.ensures.0 c.put_back-then-frame-lt-IDENTIFY.ensures.1
 
-returns-5 : tie.Need-returns-5
-returns-5 c =
-    let p = c.before.before in
-    let k = p.before.before in
-    let s = k.before.before.before.before.before.before.before in
-    put_in s.args.rec.now _ k.identify.result _ _
-    (record { is = k.identify.ensures; bytes = s.requires.0 }) p.put-back5.ensures.0 p.put-back5.ensures.1
+returns-then-frame : tie.Need-returns-then-frame
+returns-then-frame c =
+    put_in c.args.rec.now _ c.identify.result _ _
+    (record { is = c.identify.ensures; bytes = c.requires.0 }) c.put_back-then-frame.ensures.0 c.put_back-then-frame.ensures.1
 
-returns-6 : tie.Need-returns-6
-returns-6 c =
-    let p = c.before.before in
-    let k = p.before.before in
-    let s = k.before.before.before.before.before.before in
-    let b = s.args.rec.now in
-    put_in b _ k.sends.result _ _
+returns : tie.Need-returns
+returns c =
+    let b = c.args.rec.now in
+    put_in b _ c.sends.result _ _
     (record {
-      is = k.sends.ensures (device_of b) ∙ sym (past_frames _ s.args.frame (search rules));
-      bytes = s.requires.0;
+      is = c.sends.ensures (device_of b) ∙ sym (past_frames _ c.args.frame (search rules));
+      bytes = c.requires.0;
     })
-    p.put-back6.ensures.0 p.put-back6.ensures.1
+    c.put_back-2.ensures.0 c.put_back-2.ensures.1
 
 pub take_spec : {M : Type 1} → statement M
 take_spec =
@@ -91,27 +66,27 @@ take_spec =
     (λ c κs. search rules)
     (λ c κs. search rules)
     (λ c. search rules)
-    returns
+    returns-then-frame-lt-COMMANDS
     (λ c κs. search rules)
     own-requires
     (λ c κs. search rules)
     (λ c. search rules)
-    returns-2
+    returns-then-owns
     (λ c κs. search rules)
     (λ c κs. search rules)
     (λ c κs. search rules)
     (λ c. search rules)
-    returns-3
+    returns-then-frame-lt-READY
     (λ c κs. search rules)
     (λ c κs. search rules)
     (λ c. search rules)
-    returns-4
+    returns-then-frame-lt-IDENTIFY
     (λ c. search rules)
     (λ c κs. search rules)
     (λ c κs. search rules)
     (λ c. search rules)
-    returns-5
+    returns-then-frame
     (λ c κs. search rules)
     (λ c κs. search rules)
     (λ c. search rules)
-    returns-6)
+    returns)
