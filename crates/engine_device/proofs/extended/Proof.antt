@@ -27,10 +27,9 @@ out : (b : List ℕ) {f : ℕ} {p : Passed} {x : Sent} → p ≡ record { frame 
 out b e h = ap (sent b) e ∙ h
 
 -- no rule of its own
-none : (c : tie.At-match-rest) →
-    let s = c.before.before in
-    let f = s.args.frame in
-    Unlisted s.args.message.kind (extended_rules (device_of s.args.rec.now) f (decoded f))
+none : (c : tie.In_default) →
+    let f = c.args.frame in
+    Unlisted c.args.message.kind (extended_rules (device_of c.args.rec.now) f (decoded f))
 none c = (
   search rules,
   (
@@ -53,91 +52,66 @@ none c = (
 
 aes-requires : tie.Need-aes-requires
 aes-requires c κs =
-    let m = c.before in
-    let s = m.before.before in
-    let f = s.args.frame in
-    let e = s.requires.1 in
-    let k = rw e at m.match.keys6 in
+    let f = c.args.frame in
+    let e = c.requires.1 in
+    let k = rw e at c.in-38.is in
     (search rules, omega (arith, aes_codes f k), rw e (omega (arith, aes_address f k)))
 
-returns : tie.Need-returns
+returns-in-12 : tie.Need-returns-in-12
 unfolding choose
-returns c =
-    let o = c.before.before.before in
-    let m = o.before.before in
-    let s = m.before.before in
-    let d = device_of s.args.rec.now in
-    let e = own_obeyed d _ _ s.requires.1 12 (extended_lad d) m.match.keys1 o.lad.ensures.1 refl in
-    (o.lad.ensures.0, out _ c.passes.ensures e)
+returns-in-12 c =
+    let d = device_of c.args.rec.now in
+    let e = own_obeyed d _ _ c.requires.1 12 (extended_lad d) c.in-12.is c.lad.ensures.1 refl in
+    (c.lad.ensures.0, out _ c.passes.ensures e)
 
-returns-2 : tie.Need-returns-2
+returns-in-14 : tie.Need-returns-in-14
 unfolding choose
-returns-2 c =
-    let o = c.before.before.before in
-    let m = o.before.before in
-    let s = m.before.before in
-    let d = device_of s.args.rec.now in
-    let e = own_obeyed d _ _ s.requires.1 14 (extended_tad d) m.match.keys2 o.tad.ensures.1 refl in
-    (o.tad.ensures.0, out _ c.passes2.ensures e)
+returns-in-14 c =
+    let d = device_of c.args.rec.now in
+    let e = own_obeyed d _ _ c.requires.1 14 (extended_tad d) c.in-14.is c.tad.ensures.1 refl in
+    (c.tad.ensures.0, out _ c.passes-in-14.ensures e)
 
-returns-3 : tie.Need-returns-3
+returns-in-16 : tie.Need-returns-in-16
 unfolding choose
-returns-3 c =
-    let o = c.before.before.before in
-    let m = o.before.before in
-    let s = m.before.before in
-    let d = device_of s.args.rec.now in
-    let e = own_obeyed d _ _ s.requires.1 16 (sad d) m.match.keys3 o.sad.ensures.1 refl in
-    (o.sad.ensures.0, out _ c.passes3.ensures e)
+returns-in-16 c =
+    let d = device_of c.args.rec.now in
+    let e = own_obeyed d _ _ c.requires.1 16 (sad d) c.in-16.is c.sad.ensures.1 refl in
+    (c.sad.ensures.0, out _ c.passes-in-16.ensures e)
 
-returns-4 : tie.Need-returns-4
+returns-in-21 : tie.Need-returns-in-21
 unfolding choose
-returns-4 c =
-    let o = c.before.before.before in
-    let m = o.before.before in
-    let s = m.before.before in
-    let d = device_of s.args.rec.now in
-    let e = own_obeyed d _ _ s.requires.1 21 (λ o. extended_aau d) m.match.keys4 o.aau.ensures.1 refl in
-    (o.aau.ensures.0, out _ c.passes4.ensures e)
+returns-in-21 c =
+    let d = device_of c.args.rec.now in
+    let e = own_obeyed d _ _ c.requires.1 21 (λ o. extended_aau d) c.in-21.is c.aau.ensures.1 refl in
+    (c.aau.ensures.0, out _ c.passes-in-21.ensures e)
 
-returns-5 : tie.Need-returns-5
+returns-in-34 : tie.Need-returns-in-34
 unfolding choose
-returns-5 c =
-    let m = c.before in
-    let s = m.before.before in
-    let d = device_of s.args.rec.now in
-    (search rules, out _ c.passes5.ensures (own_obeyed d _ _ s.requires.1 34 (λ o. d) m.match.keys5 refl refl))
+returns-in-34 c =
+    let d = device_of c.args.rec.now in
+    (search rules, out _ c.passes-in-34.ensures (own_obeyed d _ _ c.requires.1 34 (λ o. d) c.in-34.is refl refl))
 
-returns-6 : tie.Need-returns-6
+returns-in-38 : tie.Need-returns-in-38
 unfolding choose
-returns-6 c =
-    let o = c.before.before.before in
-    let m = o.before.before in
-    let s = m.before.before in
-    let d = device_of s.args.rec.now in
-    let f = s.args.frame in
-    let e = own d f _ s.requires.1 38 (λ x. aes d f x.offset) m.match.keys6 o.aes.ensures.1 refl in
-    (o.aes.ensures.0, out _ c.passes6.ensures e)
+returns-in-38 c =
+    let d = device_of c.args.rec.now in
+    let f = c.args.frame in
+    let e = own d f _ c.requires.1 38 (λ x. aes d f x.offset) c.in-38.is c.aes.ensures.1 refl in
+    (c.aes.ensures.0, out _ c.passes-in-38.ensures e)
 
-returns-7 : tie.Need-returns-7
+returns-in-36 : tie.Need-returns-in-36
 unfolding choose
-returns-7 c =
-    let o = c.before.before.before in
-    let m = o.before.before in
-    let s = m.before.before in
-    let d = device_of s.args.rec.now in
-    let e = own_obeyed d _ _ s.requires.1 36 (aep d) m.match.keys7 o.aep.ensures.1 refl in
-    (o.aep.ensures.0, out _ c.passes7.ensures e)
+returns-in-36 c =
+    let d = device_of c.args.rec.now in
+    let e = own_obeyed d _ _ c.requires.1 36 (aep d) c.in-36.is c.aep.ensures.1 refl in
+    (c.aep.ensures.0, out _ c.passes-in-36.ensures e)
 
-returns-8 : tie.Need-returns-8
-returns-8 c =
-    let o = c.before.before in
-    let h = o.before.before.before.before in
-    let s = h.before.before.before.before in
-    let d = device_of s.args.rec.now in (
-      o.simple.ensures.0,
-      as_simple d s.args.frame s.args.message s.requires.1 (none h.before.before) h.heed.ensures.1
-          o.simple.ensures.1,
+returns-in_default : tie.Need-returns-in_default
+returns-in_default c =
+    let d = device_of c.args.rec.now in (
+      c.simple.ensures.0,
+      as_simple d c.args.frame c.args.message c.requires.1 (none c.before.before.before.before.before.before.before.before) c.heed.ensures.1
+          c.simple.ensures.1,
     )
 
 pub extended_spec : {M : Type 1} → statement M
@@ -160,17 +134,17 @@ extended_spec =
     (λ c κs. search rules)
     (λ c κs. search rules)
     (λ c. search rules)
-    returns
+    returns-in-12
     (λ c. search rules)
-    returns-2
+    returns-in-14
     (λ c. search rules)
-    returns-3
+    returns-in-16
     (λ c. search rules)
-    returns-4
-    returns-5
+    returns-in-21
+    returns-in-34
     (λ c. search rules)
-    returns-6
+    returns-in-38
     (λ c. search rules)
-    returns-7
+    returns-in-36
     (λ c. search rules)
-    returns-8)
+    returns-in_default)

@@ -6,17 +6,15 @@ use Rattle.engine_bytes.proofs.Ways.{able, unable}
 use Rattle.engine_device.proofs.take.Statement.{statement}
 use Rattle.engine_device.proofs.take.Tie as tie
 
+returns-then-rec-eq0 : tie.Need-returns-then-rec-eq0
+unfolding device_of takes
+returns-then-rec-eq0 c =
+    (c.simple.ensures.0, unable _ _ c.if-rec-eq0.true c.simple.ensures.1)
+
 returns : tie.Need-returns
 unfolding device_of takes
 returns c =
-    let o = c.before.before in
-    (o.simple.ensures.0, unable _ _ o.before.before.if1.true o.simple.ensures.1)
-
-returns-2 : tie.Need-returns-2
-unfolding device_of takes
-returns-2 c =
-    let o = c.before.before in
-    (o.extended.ensures.0, able _ _ o.before.before.if1.false o.extended.ensures.1)
+    (c.extended.ensures.0, able _ _ c.if-rec-eq0.false c.extended.ensures.1)
 
 pub take_spec : {M : Type 1} → statement M
 take_spec =
@@ -25,7 +23,7 @@ take_spec =
     (λ c. search rules)
     (λ c κs. search rules)
     (λ c. search rules)
-    returns
+    returns-then-rec-eq0
     (λ c κs. search rules)
     (λ c. search rules)
-    returns-2)
+    returns)

@@ -8,51 +8,47 @@ use borrow.Author.Rules.{rules}
 use Rattle.form.proofs.form_right.Statement.{statement}
 use Rattle.form.proofs.form_right.Tie as tie
 
-returns : tie.Need-returns
-returns c = form_short most_devices _ (omega arith)
+returns-then-len-le-HEAD_SIZE : tie.Need-returns-then-len-le-HEAD_SIZE
+returns-then-len-le-HEAD_SIZE c = form_short most_devices _ (omega arith)
 
-cast_n : tie.Need-overflow-cast-n
-cast_n c = omega (arith, c.shared-slice-known2.given 6)
+cast_n : tie.Need-overflow_cast-n
+cast_n c = omega (arith, c.shared_slice_known-2-1.given 6)
 
-returns-2 : tie.Need-returns-2
-returns-2 c =
-    let k = c.before in
-    form_count most_devices _ (sym k.is-count.ensures ∙ not-true k.is-count.result c.if2.true)
+returns-then-not-is_count : tie.Need-returns-then-not-is_count
+returns-then-not-is_count c =
+    form_count most_devices _ (sym c.is_count.ensures ∙ not-true c.is_count.result c.if-not-is_count.true-raw)
 
-saved-size-requires : tie.Need-saved-size-requires
-saved-size-requires c κs = omega (arith, c.before.before.shared-slice-known2.given 6)
+saved_size-end-requires : tie.Need-saved_size-end-requires
+saved_size-end-requires c κs = omega (arith, c.shared_slice_known-2-1.given 6)
 
-returns-3 : tie.Need-returns-3
-returns-3 c = form_long most_devices _ (λ e. omega (arith, e, c.if3.true, c.before.saved-size.ensures))
+returns-then-len-end : tie.Need-returns-then-len-end
+returns-then-len-end c = form_long most_devices _ (λ e. omega (arith, e, c.if-len-end.true, c.saved_size-end.ensures))
 
-heads-right-requires : tie.Need-heads-right-requires
-heads-right-requires c κs =
+heads_right-requires : tie.Need-heads_right-requires
+heads_right-requires c κs =
     record {
       count = refl;
-      small = omega (arith, c.before.before.before.before.shared-slice-known2.given 6);
+      small = omega (arith, c.shared_slice_known-2-1.given 6);
       long = omega arith;
     }
 
-returns-4 : tie.Need-returns-4
-returns-4 c =
-    let h = c.before in
-    let t = h.before.before.before in
-    let k = t.before in
-    rw h.heads-right.ensures
-    (form_heads most_devices _ (sym k.is-count.ensures ∙ not-false k.is-count.result t.if2.false)
+returns : tie.Need-returns
+returns c =
+    rw c.heads_right.ensures
+    (form_heads most_devices _ (sym c.is_count.ensures ∙ not-false c.is_count.result c.if-not-is_count.false-raw)
     (omega arith))
 
 pub form_right_spec : {M : Type 1} → statement M
 form_right_spec =
     tie.close
     (tie.spec
-    returns
+    returns-then-len-le-HEAD_SIZE
     (λ c. search rules)
     cast_n
     (λ c κs. search rules)
-    returns-2
-    saved-size-requires
-    returns-3
-    heads-right-requires
+    returns-then-not-is_count
+    saved_size-end-requires
+    returns-then-len-end
+    heads_right-requires
     (λ c. search rules)
-    returns-4)
+    returns)

@@ -10,12 +10,10 @@ use Rattle.form.proofs.head_right.Tie as tie
 
 returns : tie.Need-returns
 returns c =
-    let k = c.before.before.before.before.before.before in
-    let s = k.before.before in
-    let r = s.args.rec.now in
-    let b = head_bytes s.args.kind (length r - head_size) k.head_of.result (search rules) (search rules)
-    k.head_of.ensures in
-    head_tests s.args.kind r _ _ _ _ _ _ (search rules) (search rules) (omega arith) (omega arith) (omega arith)
+    let r = c.args.rec.now in
+    let b = head_bytes c.args.kind (length r - head_size) c.head_of-h.result (search rules) (search rules)
+    c.head_of-h.ensures in
+    head_tests c.args.kind r _ _ _ _ _ _ (search rules) (search rules) (omega arith) (omega arith) (omega arith)
     (omega arith) (omega arith) (omega arith)
 
 pub head_right_spec : {M : Type 1} → statement M

@@ -25,23 +25,17 @@ unfolding headed
 together s x y z n m l i j k from at c p q r e f g h t u v =
     rw (p, q, r, rest_is from s, rest_is at s, e, f, g, h, t, u, v, add-one, c)
 
-save_prefix : tie.Need-slice-aggregate-head-right
-save_prefix c = let s = c.before.before.before in
-    sym (length-take-le saved_header_size s.args.save.now (search rules))
+save_prefix : tie.Need-slice_bounds-head_right-end
+save_prefix c = sym (length-take-le saved_header_size c.args.save.now (search rules))
 
-head-right-requires : tie.Need-head-right-requires
-head-right-requires c κs = let s = c.before.before.before in
-    rw (length-take-le saved_header_size s.args.save.now (search rules)) (omega arith, omega arith)
+head_right-requires : tie.Need-head_right-requires
+head_right-requires c κs = rw (length-take-le saved_header_size c.args.save.now (search rules)) (omega arith, omega arith)
 
 returns : tie.Need-returns
 returns c =
-    let d = c.before.before in
-    let h = d.before.before in
-    let k = h.before.before in
-    let s = k.before.before in
-    together s.args.save.now _ _ _ s.args.n _ _ _ _ _ _ _ s.requires.count h.head-right.ensures
-    d.run-headed.ensures c.run-headed2.ensures refl refl (omega arith) refl refl (omega arith)
-    k.links-at.ensures
+    together c.args.save.now _ _ _ c.args.n _ _ _ _ _ _ _ c.requires.count c.head_right.ensures
+    c.run_headed.ensures c.run_headed-2.ensures refl refl (omega arith) refl refl (omega arith)
+    c.links_at-links.ensures
 
 pub heads_right_spec : {M : Type 1} → statement M
 heads_right_spec =
@@ -49,7 +43,7 @@ heads_right_spec =
     (tie.spec
     (λ c κs. search rules)
     save_prefix
-    head-right-requires
+    head_right-requires
     (λ c. search rules)
     (λ c. search rules)
     (λ c. search rules)

@@ -10,62 +10,59 @@ use borrow.Author.Rules.{rules}
 use Rattle.form.proofs.run_headed.Statement.{statement}
 use Rattle.form.proofs.run_headed.Tie as tie
 
-abbrev invariant-loop : tie.invariant-loop
-invariant-loop records kind size count rest₀ left₀ rest left = Rest (is_of kind) size count records left rest
+abbrev invariant-loop-left : tie.invariant-loop-left
+invariant-loop-left records kind size count rest₀ left₀ rest left = Rest (is_of kind) size count records left rest
 
-abbrev decreases-loop : tie.decreases-loop
-decreases-loop records kind size count rest₀ left₀ rest left = left
+abbrev decreases-loop-left : tie.decreases-loop-left
+decreases-loop-left records kind size count rest₀ left₀ rest left = left
 
-loop-holds : tie.Need-loop-init invariant-loop decreases-loop
-loop-holds c = record { long = c.before.requires.2; same = refl }
+loop-holds : tie.Need-loop-left-init invariant-loop-left decreases-loop-left
+loop-holds c = record { long = c.requires.2; same = refl }
 
 -- the next record is there
-next_there : (c : tie.In-loop invariant-loop decreases-loop) →
-    c.before.before.before.args.size ≤ length c.before.loop.rest.now
-next_there c = let l = c.before.loop in there _ _ _ _ l.left l.rest.now l.invariant (omega arith)
+next_there : (c : tie.In-loop-left invariant-loop-left decreases-loop-left) →
+    c.args.size ≤ length c.loop-left.rest.now
+next_there c = let l = c.loop-left in there _ _ _ _ l.left l.rest.now l.invariant (omega arith)
 
-slice-aggregate-head-right : tie.Need-slice-aggregate-head-right invariant-loop decreases-loop
-slice-aggregate-head-right c = let i = c.before in
-    sym (length-take-le _ i.before.loop.rest.now (next_there i))
+slice_bounds-head_right-end : tie.Need-slice_bounds-head_right-end invariant-loop-left decreases-loop-left
+slice_bounds-head_right-end c = sym (length-take-le _ c.loop-left.rest.now (next_there c))
 
-head-right-requires : tie.Need-head-right-requires invariant-loop decreases-loop
-head-right-requires c κs =
-    let i = c.before in
-    let s = i.before.before.before in
-    rw (length-take-le s.args.size i.before.loop.rest.now (next_there i)) (s.requires.0, s.requires.1)
+head_right-requires : tie.Need-head_right-requires invariant-loop-left decreases-loop-left
+head_right-requires c κs =
+    rw (length-take-le c.args.size c.loop-left.rest.now (next_there c)) (c.requires.0, c.requires.1)
 
-returns : tie.Need-returns invariant-loop decreases-loop
-returns c = let l = c.before.before.before.before.loop in
-    fails _ _ _ _ l.left l.rest.now _ l.invariant (omega arith) c.before.head-right.ensures c.if1.true
+returns-then-not-head_right : tie.Need-returns-then-not-head_right invariant-loop-left decreases-loop-left
+returns-then-not-head_right c = let l = c.loop-left in
+    fails _ _ _ _ l.left l.rest.now _ l.invariant (omega arith) c.head_right.ensures c.if-not-head_right.true-raw
 
-sub_rest : tie.Need-overflow-sub-rest invariant-loop decreases-loop
-sub_rest c = omega (arith, next_there c.before.before.before)
+sub_rest : tie.Need-slice_bounds-rest-count invariant-loop-left decreases-loop-left
+sub_rest c = omega (arith, next_there c.before.before)
 
-part_rest_start : tie.Need-slice-bounds-rest-start invariant-loop decreases-loop
-part_rest_start c = omega (arith, next_there c.before.before.before)
+part_rest_start : tie.Need-slice_bounds-rest-start invariant-loop-left decreases-loop-left
+part_rest_start c = omega (arith, next_there c.before.before)
 
-loop-again : tie.Need-loop-preserved invariant-loop decreases-loop
-loop-again c = let l = c.before.before.before.before.before.loop in
-    next _ _ _ _ l.left l.rest.now _ l.invariant (omega arith) c.before.before.head-right.ensures
-    c.before.if1.false
+loop-again : tie.Need-loop-left-preserved invariant-loop-left decreases-loop-left
+loop-again c = let l = c.loop-left in
+    next _ _ _ _ l.left l.rest.now _ l.invariant (omega arith) c.head_right.ensures
+    c.if-not-head_right.false-raw
 
-returns-2 : tie.Need-returns-2 invariant-loop decreases-loop
-returns-2 c = let l = c.before.loop in ends _ _ _ _ l.left l.rest.now l.invariant (omega arith)
+returns : tie.Need-returns invariant-loop-left decreases-loop-left
+returns c = let l = c.loop-left in ends _ _ _ _ l.left l.rest.now l.invariant (omega arith)
 
 pub run_headed_spec : {M : Type 1} → statement M
 run_headed_spec =
     tie.close
     (tie.spec
-    invariant-loop
-    decreases-loop
+    invariant-loop-left
+    decreases-loop-left
     loop-holds
-    slice-aggregate-head-right
-    head-right-requires
-    returns
+    slice_bounds-head_right-end
+    head_right-requires
+    returns-then-not-head_right
     sub_rest
     part_rest_start
     (λ c. search rules)
     (λ c. search rules)
     (λ c. search rules)
     loop-again
-    returns-2)
+    returns)

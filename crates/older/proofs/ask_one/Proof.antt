@@ -6,11 +6,11 @@ use Rattle.device.specs.Change.{loadlength}
 use Rattle.older.proofs.ask_one.Statement.{statement}
 use Rattle.older.proofs.ask_one.Tie as tie
 
-returns : tie.Need-returns
-returns c = let b = c.before.before.args.rec.now in rw (lt-ltb 0 (get_or b loadlength 0) c.if1.true)
+returns-then-rec-gt0 : tie.Need-returns-then-rec-gt0
+returns-then-rec-gt0 c = let b = c.args.rec.now in rw (lt-ltb 0 (get_or b loadlength 0) c.if-rec-gt0.true)
 
-returns-2 : tie.Need-returns-2
-returns-2 c = let b = c.before.before.args.rec.now in rw (le-ltb 0 (get_or b loadlength 0) c.if1.false)
+returns-else-rec-gt0 : tie.Need-returns-else-rec-gt0
+returns-else-rec-gt0 c = let b = c.args.rec.now in rw (le-ltb 0 (get_or b loadlength 0) c.if-rec-gt0.false)
 
 pub ask_one_spec : {M : Type 1} → statement M
 ask_one_spec =
@@ -19,5 +19,5 @@ ask_one_spec =
     (λ c. search rules)
     (λ c. search rules)
     (λ c. search rules)
-    returns
-    returns-2)
+    returns-then-rec-gt0
+    returns-else-rec-gt0)

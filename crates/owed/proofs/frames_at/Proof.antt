@@ -7,21 +7,15 @@ use Rattle.owed.proofs.Links.{known, full_is}
 use Rattle.owed.proofs.frames_at.Statement.{statement}
 use Rattle.owed.proofs.frames_at.Tie as tie
 
+returns-in_default : tie.Need-returns-in_default
+returns-in_default c =
+    full_is c.args.area.now
+    (known c.args.area.now (λ i. (c.shared_slice_known-1.given i).fits) c.requires.judged) c.args.j
+    (sym c.room_at.ensures ∙ c.in_default.is)
+
 returns : tie.Need-returns
 returns c =
-    let r = c.before.before in
-    let k = r.before in
-    let s = k.before in
-    full_is s.args.area.now
-    (known s.args.area.now (λ i. (k.shared-slice-known.given i).fits) s.requires.judged) s.args.j
-    (sym r.room_at.ensures ∙ c.enum_told.given.1)
-
-returns-2 : tie.Need-returns-2
-returns-2 c =
-    let n = c.before in
-    let r = n.before.before in
-    let s = r.before.before in
-    (room_is (link (loop_of s.args.area.now) s.args.j) _ (sym r.room_at.ensures ∙ n.n.given.1)).1
+    (room_is (link (loop_of c.args.area.now) c.args.j) _ (sym c.room_at.ensures ∙ c.in-Behind.is)).1
 
 pub frames_at_spec : {M : Type 1} → statement M
-frames_at_spec = tie.close (tie.spec (λ c κs. search rules) (λ c. search rules) (λ c. search rules) returns returns-2)
+frames_at_spec = tie.close (tie.spec (λ c κs. search rules) (λ c. search rules) (λ c. search rules) returns-in_default returns)

@@ -9,20 +9,15 @@ use borrow.Author.Rules.{rules}
 use Rattle.owed.proofs.owed.Statement.{statement}
 use Rattle.owed.proofs.owed.Tie as tie
 
+returns-then-wrong-ne0 : tie.Need-returns-then-wrong-ne0
+returns-then-wrong-ne0 c =
+    (judged_wrong no_owed (reads owed_in) c.args.area.now _ _ c.judge-wrong.ensures c.if-wrong-ne0.true refl).0
+
 returns : tie.Need-returns
 returns c =
-    let j = c.before in
-    let s = j.before.before in
-    (judged_wrong no_owed (reads owed_in) s.args.area.now _ _ j.judge.ensures c.if1.true refl).0
-
-returns-2 : tie.Need-returns-2
-returns-2 c =
-    let i = c.before in
-    let j = i.before in
-    let s = j.before.before in
-    let a = s.args.area.now in
-    (judged_right no_owed (reads owed_in) a _ _ (area_of (loop_of a)) j.judge.ensures i.if1.false
-    (ap (λ (h : ℕ). record { hops = h; refusal = 0 }) c.owed-in.ensures, refl)).0
+    let a = c.args.area.now in
+    (judged_right no_owed (reads owed_in) a _ _ (area_of (loop_of a)) c.judge-wrong.ensures c.if-wrong-ne0.false
+    (ap (λ (h : ℕ). record { hops = h; refusal = 0 }) c.owed_in-hops.ensures, refl)).0
 
 pub owed_spec : {M : Type 1} → statement M
-owed_spec = tie.close (tie.spec (λ c κs. search rules) returns (λ c κs. search rules) returns-2)
+owed_spec = tie.close (tie.spec (λ c κs. search rules) returns-then-wrong-ne0 (λ c κs. search rules) returns)

@@ -30,7 +30,7 @@ long c =
     length-take-le _ l.rest.now (there allowed _ _ _ l.left l.rest.now l.invariant (omega arith))
 
 item_of-requires : tie.Need-item_of-requires invariant-loop-left decreases-loop-left
-item_of-requires c κs = rw (long c.before, c.item_width-width.ensures) (width_few _ _)
+item_of-requires c κs = rw (long c, c.item_width-width.ensures) (width_few _ _)
 
 -- and is judged as one of 14 bytes
 judged : (c : tie.After-item_allowed invariant-loop-left decreases-loop-left) →
@@ -68,7 +68,7 @@ items_allowed_spec =
     decreases-loop-left
     (λ c κs. search rules)
     loop-holds
-    (λ c. sym (long c.before))
+    (λ c. sym (long c))
     item_of-requires
     (λ c. search rules)
     (λ c κs. search rules)

@@ -3,7 +3,7 @@ use mathlib.Core.Path.{refl, sym, ◌∙◌}
 use native.Mathlib.Omega.{arith}
 use borrow.Author.Tests.{not-true, not-false}
 use Rattle.area.specs.Sizes.{most_devices}
-use Rattle.calls.proofs.Powered.{items_fit, set_shape, set_unsound, set_done}
+use Rattle.calls.proofs.Powered.{items_fit_lem, set_shape, set_unsound, set_done}
 use borrow.Author.Rules.{rules}
 use Rattle.set_up.proofs.set_up.Statement.{statement}
 use Rattle.set_up.proofs.set_up.Tie as tie
@@ -15,7 +15,7 @@ returns-then-not-items_fit c =
 
 items_allowed-requires : tie.Need-items_allowed-requires
 items_allowed-requires c κs =
-    let p = items_fit most_devices c.devices_for-n.result c.args.area.now c.args.items.now
+    let p = items_fit_lem most_devices c.devices_for-n.result c.args.area.now c.args.items.now
     (sym c.items_fit.ensures ∙ not-false _ c.if-not-items_fit.false-raw) in
     (p.few, p.items)
 
@@ -28,7 +28,7 @@ returns-then-not-items_allowed c =
 power_on-requires : tie.Need-power_on-requires
 power_on-requires c κs =
     record {
-      fit = items_fit most_devices c.devices_for-n.result c.args.area.now c.args.items.now
+      fit = items_fit_lem most_devices c.devices_for-n.result c.args.area.now c.args.items.now
           (sym c.items_fit.ensures ∙ not-false _ c.if-not-items_fit.false-raw);
       each = sym c.items_allowed.ensures ∙ not-false _
           c.if-not-items_allowed.false-raw;

@@ -8,59 +8,38 @@ use borrow.Author.Rules.{rules}
 use Rattle.ends.proofs.put.put.Statement.{statement}
 use Rattle.ends.proofs.put.put.Tie as tie
 
-returns : tie.Need-returns
-returns c =
-    let j = c.before in
-    let s = j.before.before.before in
-    judged_wrong refusal (put_in s.args.frame) s.args.area.now _ _ j.judge.ensures c.if1.true refl
+returns-then-wrong-ne0 : tie.Need-returns-then-wrong-ne0
+returns-then-wrong-ne0 c =
+    judged_wrong refusal (put_in c.args.frame) c.args.area.now _ _ c.judge-wrong.ensures c.if-wrong-ne0.true refl
 
-returns-2 : tie.Need-returns-2
-returns-2 c =
-    let i = c.before in
-    let j = i.before in
-    let s = j.before.before.before in
-    let a = s.args.area.now in
-    judged_right refusal (put_in s.args.frame) a _ _ _ j.judge.ensures i.if1.false
-    (rw (put_bad s.args.frame (loop_of a) c.if2.true) (refl, refl))
+returns-then-frame : tie.Need-returns-then-frame
+returns-then-frame c =
+    let a = c.args.area.now in
+    judged_right refusal (put_in c.args.frame) a _ _ _ c.judge-wrong.ensures c.if-wrong-ne0.false
+    (rw (put_bad c.args.frame (loop_of a) c.if-frame.true) (refl, refl))
 
-returns-3 : tie.Need-returns-3
-returns-3 c =
-    let q = c.before.before in
-    let k = q.before.before in
-    let i = k.before in
-    let j = i.before in
-    let s = j.before.before.before in
-    let a = s.args.area.now in
-    judged_right refusal (put_in s.args.frame) a _ _ _ j.judge.ensures i.if1.false
-    (rw (put_full s.args.frame (loop_of a) k.if2.false (sym q.room_at.ensures ∙ c.enum_told.given.1))
+returns-in_default : tie.Need-returns-in_default
+returns-in_default c =
+    let a = c.args.area.now in
+    judged_right refusal (put_in c.args.frame) a _ _ _ c.judge-wrong.ensures c.if-wrong-ne0.false
+    (rw (put_full c.args.frame (loop_of a) c.if-frame.false (sym c.room_at.ensures ∙ c.in_default.is))
     (refl, refl))
 
-add-at-requires : tie.Need-add-at-requires
-add-at-requires c κs =
-    let b = c.before.before in
-    let q = b.before.before in
-    let k = q.before.before in
-    let i = k.before in
-    let j = i.before in (
-      record { judged = sym j.judge.ensures ∙ i.if1.false; there = omega arith },
-      sym q.room_at.ensures
-          ∙ b.behind.given.1,
-      k.if2.false,
+add_at-requires : tie.Need-add_at-requires
+add_at-requires c κs =
+    (
+      record { judged = sym c.judge-wrong.ensures ∙ c.if-wrong-ne0.false; there = omega arith },
+      sym c.room_at.ensures
+          ∙ c.in-Behind.is,
+      c.if-frame.false,
     )
 
-returns-4 : tie.Need-returns-4
-returns-4 c =
-    let w = c.before.before in
-    let b = w.before.before.before in
-    let q = b.before.before in
-    let k = q.before.before in
-    let i = k.before in
-    let j = i.before in
-    let s = j.before.before.before in
-    let a = s.args.area.now in
-    judged_right refusal (put_in s.args.frame) a _ _ _ j.judge.ensures i.if1.false
-    (rw (put_done s.args.frame (loop_of a) _ k.if2.false (sym q.room_at.ensures ∙ b.behind.given.1))
-    (refl, w.add_at.ensures.written))
+returns : tie.Need-returns
+returns c =
+    let a = c.args.area.now in
+    judged_right refusal (put_in c.args.frame) a _ _ _ c.judge-wrong.ensures c.if-wrong-ne0.false
+    (rw (put_done c.args.frame (loop_of a) _ c.if-frame.false (sym c.room_at.ensures ∙ c.in-Behind.is))
+    (refl, c.add_at.ensures.written))
 
 pub put_spec : {M : Type 1} → statement M
 put_spec =
@@ -68,15 +47,15 @@ put_spec =
     (tie.spec
     (λ c κs. search rules)
     (λ c. search rules)
-    returns
+    returns-then-wrong-ne0
     (λ c. search rules)
-    returns-2
+    returns-then-frame
     (λ c κs. search rules)
     (λ c. search rules)
     (λ c. search rules)
     (λ c. search rules)
-    returns-3
+    returns-in_default
     (λ c. search rules)
-    add-at-requires
+    add_at-requires
     (λ c. search rules)
-    returns-4)
+    returns)

@@ -9,52 +9,31 @@ use borrow.Author.Rules.{rules}
 use Rattle.ends.proofs.take.take.Statement.{statement}
 use Rattle.ends.proofs.take.take.Tie as tie
 
-returns : tie.Need-returns
-returns c =
-    let i = c.before in
-    let j = i.before in
-    let s = j.before.before.before in
-    judged_wrong no_take take_in s.args.area.now _ _ j.judge.ensures i.if1.true c.no-take.ensures
+returns-then-wrong-ne0 : tie.Need-returns-then-wrong-ne0
+returns-then-wrong-ne0 c =
+    judged_wrong no_take take_in c.args.area.now _ _ c.judge-wrong.ensures c.if-wrong-ne0.true c.no_take.ensures
 
-returns-2 : tie.Need-returns-2
-returns-2 c =
-    let e = c.before in
-    let o = e.before.before in
-    let n = o.before.before in
-    let i = n.before.before in
-    let j = i.before in
-    let s = j.before.before.before in
-    let a = s.args.area.now in
-    judged_right no_take take_in a _ _ _ j.judge.ensures i.if1.false
-    (rw (take_empty (loop_of a) _ n.devices-in.ensures.0 (sym o.oldest-at.ensures ∙ e.enum_told.given.1))
-    (c.no-take2.ensures, refl))
+returns-in_default : tie.Need-returns-in_default
+returns-in_default c =
+    let a = c.args.area.now in
+    judged_right no_take take_in a _ _ _ c.judge-wrong.ensures c.if-wrong-ne0.false
+    (rw (take_empty (loop_of a) _ c.devices_in-tail.ensures.0 (sym c.oldest_at.ensures ∙ c.in_default.is))
+    (c.no_take-in_default.ensures, refl))
 
-remove-at-requires : tie.Need-remove-at-requires
-remove-at-requires c κs =
-    let f = c.before.before in
-    let o = f.before.before in
-    let n = o.before.before in
-    let i = n.before.before in
-    let j = i.before in
-    let s = j.before.before.before in (
-      record { judged = sym j.judge.ensures ∙ i.if1.false; there = omega (arith, n.devices-in.ensures) },
-      some_frame (link (loop_of s.args.area.now) n.devices-in.result) _
-          (sym o.oldest-at.ensures ∙ f.frame.given.1),
+remove_at-requires : tie.Need-remove_at-requires
+remove_at-requires c κs =
+    (
+      record { judged = sym c.judge-wrong.ensures ∙ c.if-wrong-ne0.false; there = omega (arith, c.devices_in-tail.ensures) },
+      some_frame (link (loop_of c.args.area.now) c.devices_in-tail.result) _
+          (sym c.oldest_at.ensures ∙ c.in-Frame.is),
     )
 
-returns-3 : tie.Need-returns-3
-returns-3 c =
-    let x = c.before.before in
-    let f = x.before.before.before in
-    let o = f.before.before in
-    let n = o.before.before in
-    let i = n.before.before in
-    let j = i.before in
-    let s = j.before.before.before in
-    let a = s.args.area.now in
-    judged_right no_take take_in a _ _ _ j.judge.ensures i.if1.false
-    (rw (take_done (loop_of a) _ n.devices-in.ensures.0 _ (sym o.oldest-at.ensures ∙ f.frame.given.1))
-    (refl, x.remove-at.ensures.written))
+returns : tie.Need-returns
+returns c =
+    let a = c.args.area.now in
+    judged_right no_take take_in a _ _ _ c.judge-wrong.ensures c.if-wrong-ne0.false
+    (rw (take_done (loop_of a) _ c.devices_in-tail.ensures.0 _ (sym c.oldest_at.ensures ∙ c.in-Frame.is))
+    (refl, c.remove_at.ensures.written))
 
 pub take_spec : {M : Type 1} → statement M
 take_spec =
@@ -63,14 +42,14 @@ take_spec =
     (λ c κs. search rules)
     (λ c κs. search rules)
     (λ c. search rules)
-    returns
+    returns-then-wrong-ne0
     (λ c κs. search rules)
     (λ c κs. search rules)
     (λ c. search rules)
     (λ c. search rules)
     (λ c κs. search rules)
     (λ c. search rules)
-    returns-2
-    remove-at-requires
+    returns-in_default
+    remove_at-requires
     (λ c. search rules)
-    returns-3)
+    returns)
