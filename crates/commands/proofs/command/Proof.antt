@@ -22,12 +22,11 @@ returns-in_default c =
 -- PPE's number is below 16
 ppe-requires : tie.Need-ppe-requires
 unfolding choose messages first_in first_of codes_in codes_of has_c1
-ppe-requires c κs =
-    (
-      search rules,
-      rw c.offset_of-in-Ppe.ensures
-          (ppe_number c.args.frame (sym c.kind_of.ensures ∙ ap number_of c.in-Ppe.is)),
-    )
+ppe-requires c κs = (
+  search rules,
+  rw c.offset_of-in-Ppe.ensures
+      (ppe_number c.args.frame (sym c.kind_of.ensures ∙ ap number_of c.in-Ppe.is)),
+)
 
 pub command_spec : {M : Type 1} → statement M
 unfolding choose messages first_in first_of codes_in codes_of has_c1

@@ -10,13 +10,12 @@ use Rattle.engine_ready.proofs.sst.Tie as tie
 
 returns : tie.Need-returns
 unfolding device_of sst
-returns c =
-    (
-      c.continues.ensures.0,
-      when_eq _ _ c.if-rec-ne-ADDRESSED.false
-          (able _ _ c.if-rec-eq0.false
-          (continues_on c.continues.ensures.1 (talking_on 3 c.talk.ensures.1 c.polls.ensures.1))),
-    )
+returns c = (
+  c.continues.ensures.0,
+  when_eq _ _ c.if-rec-ne-ADDRESSED.false
+      (able _ _ c.if-rec-eq0.false
+      (continues_on c.continues.ensures.1 (talking_on 3 c.talk.ensures.1 c.polls.ensures.1))),
+)
 
 pub sst_spec : {M : Type 1} → statement M
 unfolding device_of sst

@@ -10,11 +10,10 @@ use Rattle.engine_reply.proofs.sends_data.Tie as tie
 
 returns : tie.Need-returns
 unfolding device_of sends_data
-returns c =
-    (
-      c.count.ensures.0,
-      rw (← c.data_frame-frame.ensures) (ap (λ (d : Device). sends d c.data_frame-frame.result) c.count.ensures.1),
-    )
+returns c = (
+  c.count.ensures.0,
+  rw (← c.data_frame-frame.ensures) (ap (λ (d : Device). sends d c.data_frame-frame.result) c.count.ensures.1),
+)
 
 pub sends_data_spec : {M : Type 1} → statement M
 unfolding device_of

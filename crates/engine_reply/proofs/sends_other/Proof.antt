@@ -11,12 +11,11 @@ use Rattle.engine_reply.proofs.sends_other.Tie as tie
 
 returns : tie.Need-returns
 unfolding device_of sends_other
-returns c =
-    (
-      c.count.ensures.0,
-      rw (← c.other_byte-offset.ensures, ← c.marked-frame.ensures)
-          (ap (λ (d : Device). sends d c.marked-frame.result) c.count.ensures.1),
-    )
+returns c = (
+  c.count.ensures.0,
+  rw (← c.other_byte-offset.ensures, ← c.marked-frame.ensures)
+      (ap (λ (d : Device). sends d c.marked-frame.result) c.count.ensures.1),
+)
 
 pub sends_other_spec : {M : Type 1} → statement M
 unfolding device_of has_c1

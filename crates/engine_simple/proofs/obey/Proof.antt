@@ -108,10 +108,13 @@ returns-in-10 c =
     (c.ppu.ensures.0, e)
 
 returns-in_default : tie.Need-returns-in_default
-returns-in_default c =
+returns-in_default c = (
+  search rules,
+  passed_on (device_of c.args.rec.now) c.args.frame c.args.message c.requires.1.command.read (
+    search rules,
     (
       search rules,
-      passed_on (device_of c.args.rec.now) c.args.frame c.args.message c.requires.1.command.read (
+      (
         search rules,
         (
           search rules,
@@ -155,13 +158,7 @@ returns-in_default c =
                                                 search rules,
                                                 (
                                                   search rules,
-                                                  (
-                                                    search rules,
-                                                    (
-                                                      search rules,
-                                                      (search rules, tt),
-                                                    ),
-                                                  ),
+                                                  (search rules, tt),
                                                 ),
                                               ),
                                             ),
@@ -184,7 +181,9 @@ returns-in_default c =
           ),
         ),
       ),
-    )
+    ),
+  ),
+)
 
 pub obey_spec : {M : Type 1} → statement M
 obey_spec =

@@ -84,10 +84,13 @@ returns-in-42 c =
     (search rules, ruled d f _ c.requires.1.read 42 (idy d) c.in-42.is c.identify.ensures refl)
 
 returns-in_default : tie.Need-returns-in_default
-returns-in_default c =
+returns-in_default c = (
+  search rules,
+  passed_on (device_of c.args.rec.now) c.args.frame c.args.message c.requires.1.read (
+    search rules,
     (
       search rules,
-      passed_on (device_of c.args.rec.now) c.args.frame c.args.message c.requires.1.read (
+      (
         search rules,
         (
           search rules,
@@ -131,13 +134,7 @@ returns-in_default c =
                                                 search rules,
                                                 (
                                                   search rules,
-                                                  (
-                                                    search rules,
-                                                    (
-                                                      search rules,
-                                                      (search rules, tt),
-                                                    ),
-                                                  ),
+                                                  (search rules, tt),
                                                 ),
                                               ),
                                             ),
@@ -160,7 +157,9 @@ returns-in_default c =
           ),
         ),
       ),
-    )
+    ),
+  ),
+)
 
 pub ready_spec : {M : Type 1} → statement M
 ready_spec =

@@ -18,22 +18,22 @@ contents_sound-requires c κs = is_shaped _
 returns-then-not-contents_sound : tie.Need-returns-then-not-contents_sound
 unfolding judge_with
 returns-then-not-contents_sound c = simp (
-      ← c.shape_right.ensures,
-      not-false c.shape_right.result c.if-not-shape_right.false-raw,
-      ←
-          c.contents_sound.ensures,
-      not-true c.contents_sound.result c.if-not-contents_sound.true-raw,
-    )
+  ← c.shape_right.ensures,
+  not-false c.shape_right.result c.if-not-shape_right.false-raw,
+  ←
+      c.contents_sound.ensures,
+  not-true c.contents_sound.result c.if-not-contents_sound.true-raw,
+)
 
 returns : tie.Need-returns
 unfolding judge_with
 returns c = simp (
-      ← c.shape_right.ensures,
-      not-false c.shape_right.result c.if-not-shape_right.false-raw,
-      ←
-          c.contents_sound.ensures,
-      not-false c.contents_sound.result c.if-not-contents_sound.false-raw,
-    )
+  ← c.shape_right.ensures,
+  not-false c.shape_right.result c.if-not-shape_right.false-raw,
+  ←
+      c.contents_sound.ensures,
+  not-false c.contents_sound.result c.if-not-contents_sound.false-raw,
+)
 
 pub judge_spec : {M : Type 1} → statement M
 judge_spec =

@@ -30,13 +30,12 @@ returns-then-line-i c =
     (omega arith) c.if-line-i.true)
 
 loop-again : tie.Need-loop-i-preserved invariant-loop-i decreases-loop-i
-loop-again c =
-    (
-      omega arith,
-      c.loop-i.invariant.1
-          ∙ agrees c.args.word.now c.args.line.now c.loop-i.i c.loop-i-test.true
-          (omega arith) c.if-line-i.false,
-    )
+loop-again c = (
+  omega arith,
+  c.loop-i.invariant.1
+      ∙ agrees c.args.word.now c.args.line.now c.loop-i.i c.loop-i-test.true
+      (omega arith) c.if-line-i.false,
+)
 
 returns : tie.Need-returns invariant-loop-i decreases-loop-i
 returns c =

@@ -35,11 +35,10 @@ slice_bounds-item_of-end c =
     sym (length-take-le group_size l.rest.now (omega (arith, l.invariant.enough)))
 
 item_of-requires : tie.Need-item_of-requires invariant-loop-left decreases-loop-left
-item_of-requires c κs =
-    (
-      length-take-le group_size c.loop-left.rest.now (omega (arith, c.loop-left.invariant.enough)),
-      first _ _ _ c.loop-left.left c.loop-left.rest.now c.loop-left.at c.loop-left.items c.loop-left.invariant (omega arith),
-    )
+item_of-requires c κs = (
+  length-take-le group_size c.loop-left.rest.now (omega (arith, c.loop-left.invariant.enough)),
+  first _ _ _ c.loop-left.left c.loop-left.rest.now c.loop-left.at c.loop-left.items c.loop-left.invariant (omega arith),
+)
 
 put-at-requires : tie.Need-put-at-requires invariant-loop-left decreases-loop-left
 put-at-requires c κs =

@@ -8,11 +8,10 @@ use Rattle.taker.proofs.take_in.Tie as tie
 
 -- the last frame sent, read from the record, is the record's
 take-requires : tie.Need-take-requires
-take-requires c κs =
-    (
-      c.requires.0,
-      record { past = omega (arith, c.requires.1.past, ap (λ (d : Device). d.last) c.read.ensures) },
-    )
+take-requires c κs = (
+  c.requires.0,
+  record { past = omega (arith, c.requires.1.past, ap (λ (d : Device). d.last) c.read.ensures) },
+)
 
 returns : tie.Need-returns
 returns c =

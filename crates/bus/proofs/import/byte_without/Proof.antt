@@ -27,12 +27,11 @@ returns-then-not-has_command c =
     (sym c.has_command.ensures ∙ not-true c.has_command.result c.if-not-has_command.true-raw) c.loop-i.invariant.1)
 
 loop-again : tie.Need-loop-i-preserved invariant-loop-i decreases-loop-i
-loop-again c =
-    (
-      omega arith,
-      byte_goes c.args.row.now c.loop-i.i c.loop-i-test.true
-          (sym c.has_command.ensures ∙ not-false c.has_command.result c.if-not-has_command.false-raw) c.loop-i.invariant.1,
-    )
+loop-again c = (
+  omega arith,
+  byte_goes c.args.row.now c.loop-i.i c.loop-i-test.true
+      (sym c.has_command.ensures ∙ not-false c.has_command.result c.if-not-has_command.false-raw) c.loop-i.invariant.1,
+)
 
 returns : tie.Need-returns invariant-loop-i decreases-loop-i
 returns c = sym (byte_ends c.args.row.now c.loop-i.i (omega arith) c.loop-i.invariant.1)

@@ -26,13 +26,12 @@ returns-in_default c =
     (refl, refl))
 
 add_at-requires : tie.Need-add_at-requires
-add_at-requires c κs =
-    (
-      record { judged = sym c.judge-wrong.ensures ∙ c.if-wrong-ne0.false; there = omega arith },
-      sym c.room_at.ensures
-          ∙ c.in-Behind.is,
-      c.if-frame.false,
-    )
+add_at-requires c κs = (
+  record { judged = sym c.judge-wrong.ensures ∙ c.if-wrong-ne0.false; there = omega arith },
+  sym c.room_at.ensures
+      ∙ c.in-Behind.is,
+  c.if-frame.false,
+)
 
 returns : tie.Need-returns
 returns c =

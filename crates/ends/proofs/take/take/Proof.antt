@@ -21,12 +21,11 @@ returns-in_default c =
     (c.no_take-in_default.ensures, refl))
 
 remove_at-requires : tie.Need-remove_at-requires
-remove_at-requires c κs =
-    (
-      record { judged = sym c.judge-wrong.ensures ∙ c.if-wrong-ne0.false; there = omega (arith, c.devices_in-tail.ensures) },
-      some_frame (link (loop_of c.args.area.now) c.devices_in-tail.result) _
-          (sym c.oldest_at.ensures ∙ c.in-Frame.is),
-    )
+remove_at-requires c κs = (
+  record { judged = sym c.judge-wrong.ensures ∙ c.if-wrong-ne0.false; there = omega (arith, c.devices_in-tail.ensures) },
+  some_frame (link (loop_of c.args.area.now) c.devices_in-tail.result) _
+      (sym c.oldest_at.ensures ∙ c.in-Frame.is),
+)
 
 returns : tie.Need-returns
 returns c =

@@ -8,13 +8,13 @@ use Rattle.judge.proofs.contents.empty_sound.Tie as tie
 returns : tie.Need-returns
 unfolding sound_link sound_slot
 returns c = simp (
-      c.requires.1,
-      c.word_at.ensures,
-      c.word_at-2.ensures,
-      c.word_at-3.ensures,
-      c.word_at-4.ensures,
-      and-true,
-    )
+  c.requires.1,
+  c.word_at.ensures,
+  c.word_at-2.ensures,
+  c.word_at-3.ensures,
+  c.word_at-4.ensures,
+  and-true,
+)
 
 pub empty_sound_spec : {M : Type 1} → statement M
 empty_sound_spec =
