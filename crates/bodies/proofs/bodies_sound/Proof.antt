@@ -30,13 +30,9 @@ together s x y z n m l head from at v p q r e i f j g =
 
 returns : tie.Need-returns
 returns c =
-    let d = c.before.before in
-    let h = d.before.before in
-    let k = h.before.before in
-    let s = k.before.before in
-    together s.args.save.now _ _ _ s.args.n _ _ _ _ _ s.requires h.rest-zero.ensures
-    d.device-bodies-sound.ensures c.link-bodies-sound.ensures refl (omega arith) refl (omega arith)
-    k.links-at.ensures
+    together c.args.save.now _ _ _ c.args.n _ _ _ _ _ c.requires c.rest_zero.ensures
+    c.device_bodies_sound.ensures c.link_bodies_sound.ensures refl (omega arith) refl (omega arith)
+    c.links_at-links.ensures
 
 pub bodies_sound_spec : {M : Type 1} → statement M
 bodies_sound_spec =

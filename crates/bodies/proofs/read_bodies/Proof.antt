@@ -25,31 +25,24 @@ unfolding contents
 together s p ds ls n m l from at c x y z e f g h =
     rw (x, part_of head_size header_size s, y, z, rest_is from s, rest_is at s, e, f, g, h, add-one, c)
 
-area_prefix : tie.Need-slice-aggregate-read-header
-area_prefix c = let s = c.before.before.before.before.before in
-    sym (length-take-le header_size s.args.area.now (search rules))
+area_prefix : tie.Need-slice_bounds-read_header-end-3
+area_prefix c = sym (length-take-le header_size c.args.area.now (search rules))
 
-read-header-requires : tie.Need-read-header-requires
-read-header-requires c κs =
-    let s = c.before.before.before.before.before in
+read_header-requires : tie.Need-read_header-requires
+read_header-requires c κs =
     rw (
-      length-take-le header_size s.args.area.now (search rules),
-      lent_long head_size saved_header_size header_size s.args.save.now (search rules) (omega arith),
+      length-take-le header_size c.args.area.now (search rules),
+      lent_long head_size saved_header_size header_size c.args.save.now (search rules) (omega arith),
     )
     (refl, refl)
 
 returns : tie.Need-returns
 returns c =
-    let y = c.before.before in
-    let d = y.before.before.before.before.before in
-    let h = d.before.before.before.before.before in
-    let k = h.before.before.before in
-    let s = k.before.before.before in
-    three header_size (record_at s.args.n) s.args.area.now h.read-header.new.1.0 d.read-run.new.1.0
-    y.read-run2.new.1.0 (omega arith) (search rules) h.read-header.auto.1.0 d.read-run.auto.1.0
-    y.read-run2.auto.1.0
-    ∙ together s.args.save.now _ _ _ s.args.n _ _ _ _ s.requires.0.count h.read-header.ensures
-    d.read-run.ensures y.read-run2.ensures (omega arith) refl (omega arith) k.links-at.ensures
+    three header_size (record_at c.args.n) c.args.area.now c.read_header.new.to c.read_run.new.to
+    c.read_run-2.new.to (omega arith) (search rules) c.read_header.auto.to c.read_run.auto.to
+    c.read_run-2.auto.to
+    ∙ together c.args.save.now _ _ _ c.args.n _ _ _ _ c.requires.0.count c.read_header.ensures
+    c.read_run.ensures c.read_run-2.ensures (omega arith) refl (omega arith) c.links_at-from.ensures
 
 pub read_bodies_spec : {M : Type 1} → statement M
 read_bodies_spec =
@@ -63,7 +56,7 @@ read_bodies_spec =
     (λ c. search rules)
     (λ c. search rules)
     area_prefix
-    read-header-requires
+    read_header-requires
     (λ c. search rules)
     (λ c. search rules)
     (λ c. search rules)

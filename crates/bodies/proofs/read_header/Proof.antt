@@ -4,7 +4,7 @@ use Rattle.bodies.proofs.read_header.Statement.{statement}
 use Rattle.bodies.proofs.read_header.Tie as tie
 
 returns : tie.Need-returns
-returns c = rw c.before.before.fill.ensures
+returns c = rw c.fill.ensures
 
 pub read_header_spec : {M : Type 1} → statement M
 read_header_spec =

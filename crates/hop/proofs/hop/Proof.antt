@@ -8,32 +8,22 @@ use Rattle.calls.proofs.Outcomes.{hop_none}
 use Rattle.hop.proofs.hop.Statement.{statement}
 use Rattle.hop.proofs.hop.Tie as tie
 
-hop-at-requires : tie.Need-hop-at-requires
-hop-at-requires c κs =
-    let m = c.before.before in
-    let f = m.before.before in
-    let s = f.before.before.before in
-    (found_there s.args.area.now s.args.device _ (sym f.find.ensures ∙ m.i.given.1)).0
+hop_at-requires : tie.Need-hop_at-requires
+hop_at-requires c κs =
+    (found_there c.args.area.now c.args.device _ (sym c.find.ensures ∙ c.in-At.is)).0
 
-returns : tie.Need-returns
-returns c =
-    let m = c.before.before in
-    let f = m.before.before in
-    let s = f.before.before.before in
-    refused_as_found no_hop (hop_in s.args.device) s.args.area.now s.args.device
-    (hop_none s.args.device (loop_of s.args.area.now)) _ _
-    (sym f.find.ensures ∙ m.wrong.given.1) c.no_hop.ensures
+returns-in-Refused : tie.Need-returns-in-Refused
+returns-in-Refused c =
+    refused_as_found no_hop (hop_in c.args.device) c.args.area.now c.args.device
+    (hop_none c.args.device (loop_of c.args.area.now)) _ _
+    (sym c.find.ensures ∙ c.in-Refused.is) c.no_hop.ensures
 
-returns-2 : tie.Need-returns-2
-returns-2 c =
-    let h = c.before.before in
-    let m = h.before.before.before in
-    let f = m.before.before in
-    let s = f.before.before.before in
-    let e = sym f.find.ensures ∙ m.i.given.1 in
-    done_as_found no_hop (hop_in s.args.device) s.args.area.now s.args.device
-    (hop_none s.args.device (loop_of s.args.area.now)) _ _ _ e
-    (rw (found_there s.args.area.now s.args.device _ e).1 at h.hop-at.ensures)
+returns-in-At : tie.Need-returns-in-At
+returns-in-At c =
+    let e = sym c.find.ensures ∙ c.in-At.is in
+    done_as_found no_hop (hop_in c.args.device) c.args.area.now c.args.device
+    (hop_none c.args.device (loop_of c.args.area.now)) _ _ _ e
+    (rw (found_there c.args.area.now c.args.device _ e).1 at c.hop_at.ensures)
 
 pub hop_spec : {M : Type 1} → statement M
 hop_spec =
@@ -43,8 +33,8 @@ hop_spec =
     (λ c. search rules)
     (λ c κs. search rules)
     (λ c. search rules)
-    hop-at-requires
+    hop_at-requires
     (λ c. search rules)
-    returns
+    returns-in-Refused
     (λ c. search rules)
-    returns-2)
+    returns-in-At)

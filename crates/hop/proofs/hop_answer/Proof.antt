@@ -5,23 +5,20 @@ use borrow.Author.Rules.{rules}
 use Rattle.hop.proofs.hop_answer.Statement.{statement}
 use Rattle.hop.proofs.hop_answer.Tie as tie
 
-returns : tie.Need-returns
-returns c = sym (ap (hop_answer c.before.before.before.args.passed.frame) c.before.handed.given.1)
+returns-in-Byte : tie.Need-returns-in-Byte
+returns-in-Byte c = sym (ap (hop_answer c.args.passed.frame) c.in-Byte.is)
 
-returns-2 : tie.Need-returns-2
-returns-2 c =
-    let t = c.before in
-    c.no_byte.ensures ∙ sym (ap (hop_answer t.before.before.args.passed.frame) t.enum_told.given.1)
+returns-in-Clear : tie.Need-returns-in-Clear
+returns-in-Clear c =
+    c.no_byte.ensures ∙ sym (ap (hop_answer c.args.passed.frame) c.in-Clear.is)
 
-returns-3 : tie.Need-returns-3
-returns-3 c =
-    let t = c.before in
-    c.no-byte2.ensures ∙ sym (ap (hop_answer t.before.before.args.passed.frame) t.enum-told2.given.1)
+returns-in-Trigger : tie.Need-returns-in-Trigger
+returns-in-Trigger c =
+    c.no_byte-in-Trigger.ensures ∙ sym (ap (hop_answer c.args.passed.frame) c.in-Trigger.is)
 
-returns-4 : tie.Need-returns-4
-returns-4 c =
-    let t = c.before in
-    c.no-byte3.ensures ∙ sym (ap (hop_answer t.before.before.args.passed.frame) t.enum-told3.given.1)
+returns-in-Nothing : tie.Need-returns-in-Nothing
+returns-in-Nothing c =
+    c.no_byte-in-Nothing.ensures ∙ sym (ap (hop_answer c.args.passed.frame) c.in-Nothing.is)
 
 pub hop_answer_spec : {M : Type 1} → statement M
 hop_answer_spec =
@@ -34,7 +31,7 @@ hop_answer_spec =
     (λ c κs. search rules)
     (λ c. search rules)
     (λ c κs. search rules)
-    returns
-    returns-2
-    returns-3
-    returns-4)
+    returns-in-Byte
+    returns-in-Clear
+    returns-in-Trigger
+    returns-in-Nothing)

@@ -9,57 +9,37 @@ use borrow.Author.Rules.{rules}
 use Rattle.hop.proofs.hop_at.Statement.{statement}
 use Rattle.hop.proofs.hop_at.Tie as tie
 
-returns : tie.Need-returns
-returns c =
-    let e = c.before in
-    let o = e.before.before in
-    let s = o.before.before.before in
-    rw (hop_empty s.args.i (loop_of s.args.area.now) s.requires.there
-    (sym o.oldest-at.ensures ∙ e.enum_told.given.1)) (c.no_hop.ensures, refl)
+returns-in_default : tie.Need-returns-in_default
+returns-in_default c =
+    rw (hop_empty c.args.i (loop_of c.args.area.now) c.requires.there
+    (sym c.oldest_at.ensures ∙ c.in_default.is)) (c.no_hop.ensures, refl)
 
-add_room_at : tie.Need-overflow-add-room-at
+add_room_at : tie.Need-overflow_add-i
 add_room_at c =
-    let s = c.before.before.before.before.before.before.before in
-    omega (arith, s.requires.there, sized s.args.area.now s.requires.judged)
+    omega (arith, c.requires.there, sized c.args.area.now c.requires.judged)
 
-returns-2 : tie.Need-returns-2
-returns-2 c =
-    let e = c.before in
-    let q = e.before.before in
-    let f = q.before.before.before in
-    let o = f.before.before in
-    let s = o.before.before.before in
-    rw (hop_full s.args.i (loop_of s.args.area.now) _ s.requires.there
-    (sym o.oldest-at.ensures ∙ f.frame.given.1)
-    (sym (rw add-one at q.room_at.ensures) ∙ e.enum-told2.given.1)) (c.no-hop2.ensures, refl)
+returns-in_default-room_at : tie.Need-returns-in_default-room_at
+returns-in_default-room_at c =
+    rw (hop_full c.args.i (loop_of c.args.area.now) _ c.requires.there
+    (sym c.oldest_at.ensures ∙ c.in-Frame.is)
+    (sym (rw add-one at c.room_at.ensures) ∙ c.in_default-room_at.is)) (c.no_hop-in_default-room_at.ensures, refl)
 
-pass-on-requires : tie.Need-pass-on-requires
-pass-on-requires c κs =
-    let b = c.before.before in
-    let q = b.before.before in
-    let f = q.before.before.before in
-    let o = f.before.before in
-    let s = o.before.before.before in
+pass_on-requires : tie.Need-pass_on-requires
+pass_on-requires c κs =
     record {
-      has = s.requires;
-      oldest = sym o.oldest-at.ensures ∙ f.frame.given.1;
+      has = c.requires;
+      oldest = sym c.oldest_at.ensures ∙ c.in-Frame.is;
       room = sym
-          (rw add-one at q.room_at.ensures) ∙ b.behind.given.1;
+          (rw add-one at c.room_at.ensures) ∙ c.in-Behind.is;
     }
 
-returns-3 : tie.Need-returns-3
-returns-3 c =
-    let p = c.before.before.before in
-    let b = p.before.before.before in
-    let q = b.before.before in
-    let f = q.before.before.before in
-    let o = f.before.before in
-    let s = o.before.before.before in
-    rw (hop_done s.args.i (loop_of s.args.area.now) _ _ s.requires.there
-    (sym o.oldest-at.ensures ∙ f.frame.given.1)
-    (sym (rw add-one at q.room_at.ensures) ∙ b.behind.given.1)) (
-      c.hop_answer.ensures ∙ rw (p.pass_on.ensures.0.frame, p.pass_on.ensures.0.handed),
-      p.pass_on.ensures.1.written,
+returns : tie.Need-returns
+returns c =
+    rw (hop_done c.args.i (loop_of c.args.area.now) _ _ c.requires.there
+    (sym c.oldest_at.ensures ∙ c.in-Frame.is)
+    (sym (rw add-one at c.room_at.ensures) ∙ c.in-Behind.is)) (
+      c.hop_answer.ensures ∙ rw (c.pass_on.ensures.0.frame, c.pass_on.ensures.0.handed),
+      c.pass_on.ensures.1.written,
     )
 
 pub hop_at_spec : {M : Type 1} → statement M
@@ -71,15 +51,15 @@ hop_at_spec =
     (λ c. search rules)
     (λ c κs. search rules)
     (λ c. search rules)
-    returns
+    returns-in_default
     add_room_at
     (λ c κs. search rules)
     (λ c. search rules)
     (λ c. search rules)
     (λ c κs. search rules)
     (λ c. search rules)
-    returns-2
-    pass-on-requires
+    returns-in_default-room_at
+    pass_on-requires
     (λ c κs. search rules)
     (λ c. search rules)
-    returns-3)
+    returns)

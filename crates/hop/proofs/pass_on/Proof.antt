@@ -18,69 +18,56 @@ use Rattle.hop.proofs.pass_on.Statement.{statement}
 use Rattle.hop.proofs.pass_on.Tie as tie
 
 -- the frame that the device sends, and that it is one
-frame_is : (c : tie.After-take-at) →
-    let s = c.before.before.before in
-    c.take_at.result.frame ≡ (sent_by s.args.i s.args.frame (loop_of s.args.area.now)).frame
-frame_is c = c.take_at.ensures.0.frame
+frame_is : (c : tie.After-take_at-passed) →
+    c.take_at-passed.result.frame ≡ (sent_by c.args.i c.args.frame (loop_of c.args.area.now)).frame
+frame_is c = c.take_at-passed.ensures.0.frame
 
-is_frame : (c : tie.After-take-at) → c.take_at.result.frame < frames
+is_frame : (c : tie.After-take_at-passed) → c.take_at-passed.result.frame < frames
 is_frame c =
-    let z = c.before.before in
-    let s = z.before in
-    let a = s.args.area.now in
-    rw (frame_is c) (sent_good (loop_of a) (loop_good a (λ i. (z.slice-known.given i).fits) s.requires.has.judged)
-    s.args.i s.args.frame s.requires.oldest).1
+    let a = c.args.area.now in
+    rw (frame_is c) (sent_good (loop_of a) (loop_good a (λ i. (c.slice_known-1.given i).fits) c.requires.has.judged)
+    c.args.i c.args.frame c.requires.oldest).1
 
 -- the loop after the second change
-held : (c : tie.After-remove-at) →
-    let s = c.before.before.before.before.before.before.before in
-    let l = loop_of s.args.area.now in
-    Holds c.remove-at.new.0
-    (remove s.args.i (set_device s.args.i (sent_by s.args.i s.args.frame l).device l))
-held c = rw c.before.before.before.before.take_at.ensures.1.held at c.remove-at.ensures
+held : (c : tie.After-remove_at) →
+    let l = loop_of c.args.area.now in
+    Holds c.remove_at.new.area
+    (remove c.args.i (set_device c.args.i (sent_by c.args.i c.args.frame l).device l))
+held c = rw c.take_at-passed.ensures.1.held at c.remove_at.ensures
 
-remove-at-requires : tie.Need-remove-at-requires
-remove-at-requires c κs =
-    let t = c.before.before.before in
-    let s = t.before.before.before in
-    let h = t.take_at.ensures.1 in (
-      record { judged = h.judged; there = rw (h.held, length-set) (omega (arith, s.requires.has.there)) },
-      rw h.held (some_frame (link (loop_of s.args.area.now) s.args.i) _ s.requires.oldest),
+remove_at-requires : tie.Need-remove_at-requires
+remove_at-requires c κs =
+    let h = c.take_at-passed.ensures.1 in (
+      record { judged = h.judged; there = rw (h.held, length-set) (omega (arith, c.requires.has.there)) },
+      rw h.held (some_frame (link (loop_of c.args.area.now) c.args.i) _ c.requires.oldest),
     )
 
-add_add_at : tie.Need-overflow-add-add-at
+add_add_at : tie.Need-overflow_add-i
 add_add_at c =
-    let s = c.before.before.before.before.before.before.before.before.before.before in
-    omega (arith, s.requires.has.there, sized s.args.area.now s.requires.has.judged)
+    omega (arith, c.requires.has.there, sized c.args.area.now c.requires.has.judged)
 
-add-at-requires : tie.Need-add-at-requires
-add-at-requires c κs =
-    let u = c.before.before.before in
-    let t = u.before.before.before.before in
-    let s = t.before.before.before in
-    let h = held u in
-    let l = loop_of s.args.area.now in (
-      record { judged = h.judged; there = rw (h.held, length-set) (omega (arith, s.requires.has.there)) },
+add_at-requires : tie.Need-add_at-requires
+add_at-requires c κs =
+    let h = held c.before.before.before in
+    let l = loop_of c.args.area.now in (
+      record { judged = h.judged; there = rw (h.held, length-set) (omega (arith, c.requires.has.there)) },
       rw
-          (h.held, add-one) (ap room_of (link_next s.args.i (tail (link l s.args.i))
-          (set_device s.args.i (sent_by s.args.i s.args.frame l).device l)) ∙ s.requires.room),
-      is_frame t,
+          (h.held, add-one) (ap room_of (link_next c.args.i (tail (link l c.args.i))
+          (set_device c.args.i (sent_by c.args.i c.args.frame l).device l)) ∙ c.requires.room),
+      is_frame c.before.before.before.before.before.before.before,
     )
 
 returns : tie.Need-returns
 returns c =
-    let w = c.before.before in
-    let u = w.before.before.before.before in
-    let t = u.before.before.before.before in
-    (t.take_at.ensures.0, rw ((held u).held, frame_is t, add-one) at w.add_at.ensures)
+    (c.take_at-passed.ensures.0, rw ((held c.before.before.before.before.before.before).held, frame_is c.before.before.before.before.before.before.before.before.before.before, add-one) at c.add_at.ensures)
 
 pub pass_on_spec : {M : Type 1} → statement M
 pass_on_spec =
     tie.close
     (tie.spec
     (λ c κs. search rules)
-    remove-at-requires
+    remove_at-requires
     add_add_at
-    add-at-requires
+    add_at-requires
     (λ c. search rules)
     returns)

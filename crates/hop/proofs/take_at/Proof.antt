@@ -10,32 +10,27 @@ use borrow.Author.Rules.{rules}
 use Rattle.hop.proofs.take_at.Statement.{statement}
 use Rattle.hop.proofs.take_at.Tie as tie
 
-take-in-requires : tie.Need-take-in-requires
-take-in-requires c κs =
-    let k = c.before in
-    let s = k.before.before.before in
-    let a = s.args.area.now in
-    let i = s.args.i in
-    let small : Bytes a = λ j. (k.before.before.slice-known.given j).fits in
-    let e = device_lent a small i k.record-start.result s.requires k.record-start.ensures in (
-      record_lent a small i k.record-start.result s.requires k.record-start.ensures,
-      rw e (last_is_data _ ((loop_good a small s.requires.judged).devices i)),
+take_in-requires : tie.Need-take_in-requires
+take_in-requires c κs =
+    let a = c.args.area.now in
+    let i = c.args.i in
+    let small : Bytes a = λ j. (c.slice_known-1.given j).fits in
+    let e = device_lent a small i c.record_start-at.result c.requires c.record_start-at.ensures in (
+      record_lent a small i c.record_start-at.result c.requires c.record_start-at.ensures,
+      rw e (last_is_data _ ((loop_good a small c.requires.judged).devices i)),
     )
 
 returns : tie.Need-returns
 returns c =
-    let t = c.before.before in
-    let k = t.before.before in
-    let s = k.before.before.before in
-    let a = s.args.area.now in
-    let i = s.args.i in
-    let small : Bytes a = λ j. (k.before.before.slice-known.given j).fits in
-    let e = device_lent a small i k.record-start.result s.requires k.record-start.ensures in (
-      rw e at t.take_in.ensures.passes,
-      device_held a small i k.record-start.result s.requires k.record-start.ensures
-          (takes (device (loop_of a) i) s.args.frame).device _
-          (take_keeps _ s.args.frame ((loop_good a small s.requires.judged).devices i))
-          (rw e at t.take_in.ensures.leaves),
+    let a = c.args.area.now in
+    let i = c.args.i in
+    let small : Bytes a = λ j. (c.slice_known-1.given j).fits in
+    let e = device_lent a small i c.record_start-at.result c.requires c.record_start-at.ensures in (
+      rw e at c.take_in.ensures.passes,
+      device_held a small i c.record_start-at.result c.requires c.record_start-at.ensures
+          (takes (device (loop_of a) i) c.args.frame).device _
+          (take_keeps _ c.args.frame ((loop_good a small c.requires.judged).devices i))
+          (rw e at c.take_in.ensures.leaves),
     )
 
 pub take_at_spec : {M : Type 1} → statement M
@@ -47,6 +42,6 @@ take_at_spec =
     (λ c. search rules)
     (λ c. search rules)
     (λ c. search rules)
-    take-in-requires
+    take_in-requires
     (λ c. search rules)
     returns)

@@ -10,61 +10,42 @@ use Rattle.local_calls.proofs.Called.{refused, there, its_record, made}
 use Rattle.local_calls.proofs.load.Statement.{statement}
 use Rattle.local_calls.proofs.load.Tie as tie
 
-returns : tie.Need-returns
-returns c =
-    let t = c.before.before in
-    let s = t.before.before.before in
-    rw (load_unchosen s.args.area.now s.args.device s.args.bytes.now s.args.end
-    (lt-leb _ _ t.if1.true))
-    (c.no-choice.ensures, refl)
+returns-then-end : tie.Need-returns-then-end
+returns-then-end c =
+    rw (load_unchosen c.args.area.now c.args.device c.args.bytes.now c.args.end
+    (lt-leb _ _ c.if-end.true))
+    (c.no_choice.ensures, refl)
 
-record-start-requires : tie.Need-record-start-requires
-record-start-requires c κs =
-    let m = c.before.before in
-    let f = m.before.before in
-    let s = f.before.before.before.before.before in
-    there (λ d. loads d s.args.bytes.now s.args.end) s.args.area.now s.args.device _
-    (sym f.find.ensures ∙ m.i.given.1)
+record_start-at-requires : tie.Need-record_start-at-requires
+record_start-at-requires c κs =
+    there (λ d. loads d c.args.bytes.now c.args.end) c.args.area.now c.args.device _
+    (sym c.find.ensures ∙ c.in-At.is)
 
 load-requires : tie.Need-load-requires
 load-requires c κs =
-    let r = c.before in
-    let m = r.before.before.before in
-    let f = m.before.before in
-    let t = f.before.before in
-    let s = t.before.before.before in (
-      its_record (λ d. loads d s.args.bytes.now s.args.end) s.args.area.now s.args.device _
-          (sym f.find.ensures ∙ m.i.given.1) (λ j. (t.before.before.slice-known.given j).fits)
-          r.record-start.result r.record-start.ensures,
-      omega (arith, t.if1.false),
+    (
+      its_record (λ d. loads d c.args.bytes.now c.args.end) c.args.area.now c.args.device _
+          (sym c.find.ensures ∙ c.in-At.is) (λ j. (c.slice_known-1.given j).fits)
+          c.record_start-at.result c.record_start-at.ensures,
+      omega (arith, c.if-end.false),
     )
 
-returns-2 : tie.Need-returns-2
-returns-2 c =
-    let m = c.before in
-    let f = m.before.before in
-    let t = f.before.before in
-    let s = t.before.before.before in
-    rw (load_chosen s.args.area.now s.args.device s.args.bytes.now s.args.end
-    (le-leb _ _ t.if1.false))
-    (refused (λ d. loads d s.args.bytes.now s.args.end) s.args.area.now s.args.device _
-    (sym f.find.ensures ∙ m.wrong.given.1))
+returns-in-Refused : tie.Need-returns-in-Refused
+returns-in-Refused c =
+    rw (load_chosen c.args.area.now c.args.device c.args.bytes.now c.args.end
+    (le-leb _ _ c.if-end.false))
+    (refused (λ d. loads d c.args.bytes.now c.args.end) c.args.area.now c.args.device _
+    (sym c.find.ensures ∙ c.in-Refused.is))
 
-returns-3 : tie.Need-returns-3
-returns-3 c =
-    let l = c.before.before in
-    let r = l.before.before in
-    let m = r.before.before.before in
-    let f = m.before.before in
-    let t = f.before.before in
-    let s = t.before.before.before in
-    rw (load_chosen s.args.area.now s.args.device s.args.bytes.now s.args.end
-    (le-leb _ _ t.if1.false))
-    (made (λ d. loads d s.args.bytes.now s.args.end) s.args.area.now s.args.device _
-    (sym f.find.ensures ∙ m.i.given.1) (λ j. (t.before.before.slice-known.given j).fits)
-    r.record-start.result r.record-start.ensures
-    (λ d g. load_good d s.args.bytes.now s.args.end (λ j. (t.before.shared-slice-known.given j).fits) g) _ _
-    l.load.ensures)
+returns-in-At : tie.Need-returns-in-At
+returns-in-At c =
+    rw (load_chosen c.args.area.now c.args.device c.args.bytes.now c.args.end
+    (le-leb _ _ c.if-end.false))
+    (made (λ d. loads d c.args.bytes.now c.args.end) c.args.area.now c.args.device _
+    (sym c.find.ensures ∙ c.in-At.is) (λ j. (c.slice_known-1.given j).fits)
+    c.record_start-at.result c.record_start-at.ensures
+    (λ d g. load_good d c.args.bytes.now c.args.end (λ j. (c.shared_slice_known-1.given j).fits) g) _ _
+    c.load.ensures)
 
 pub load_spec : {M : Type 1} → statement M
 load_spec =
@@ -73,11 +54,11 @@ load_spec =
     (λ c. search rules)
     (λ c κs. search rules)
     (λ c. search rules)
-    returns
+    returns-then-end
     (λ c κs. search rules)
     (λ c. search rules)
     (λ c. search rules)
-    record-start-requires
+    record_start-at-requires
     (λ c. search rules)
     (λ c. search rules)
     (λ c. search rules)
@@ -85,6 +66,6 @@ load_spec =
     (λ c. search rules)
     load-requires
     (λ c. search rules)
-    returns-2
+    returns-in-Refused
     (λ c. search rules)
-    returns-3)
+    returns-in-At)

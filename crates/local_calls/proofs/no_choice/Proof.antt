@@ -3,16 +3,16 @@ use borrow.Author.Rules.{rules}
 use Rattle.local_calls.proofs.no_choice.Statement.{statement}
 use Rattle.local_calls.proofs.no_choice.Tie as tie
 
-returns : tie.Need-returns
-returns c = let k = c.before in rw (← k.shape-right.ensures, c.if1.true)
+returns-then-shape_right : tie.Need-returns-then-shape_right
+returns-then-shape_right c = rw (← c.shape_right.ensures, c.if-shape_right.true)
 
-returns-2 : tie.Need-returns-2
-returns-2 c = let k = c.before in rw (← k.shape-right.ensures, c.if1.false)
+returns : tie.Need-returns
+returns c = rw (← c.shape_right.ensures, c.if-shape_right.false)
 
 pub no_choice_spec : {M : Type 1} → statement M
 no_choice_spec =
     tie.close
     (tie.spec
     (λ c κs. search rules)
-    returns
-    returns-2)
+    returns-then-shape_right
+    returns)

@@ -7,43 +7,28 @@ use Rattle.local_calls.proofs.Called.{refused, there, its_record, made}
 use Rattle.local_calls.proofs.poll_status.Statement.{statement}
 use Rattle.local_calls.proofs.poll_status.Tie as tie
 
-returns : tie.Need-returns
-returns c =
-    let m = c.before in
-    let f = m.before.before in
-    let s = f.before.before.before in
-    refused (λ d. sets_poll_status d s.args.status) s.args.area.now s.args.device _
-    (sym f.find.ensures ∙ m.wrong.given.1)
+returns-in-Refused : tie.Need-returns-in-Refused
+returns-in-Refused c =
+    refused (λ d. sets_poll_status d c.args.status) c.args.area.now c.args.device _
+    (sym c.find.ensures ∙ c.in-Refused.is)
 
-record-start-requires : tie.Need-record-start-requires
-record-start-requires c κs =
-    let m = c.before.before in
-    let f = m.before.before in
-    let s = f.before.before.before in
-    there (λ d. sets_poll_status d s.args.status) s.args.area.now s.args.device _
-    (sym f.find.ensures ∙ m.i.given.1)
+record_start-at-requires : tie.Need-record_start-at-requires
+record_start-at-requires c κs =
+    there (λ d. sets_poll_status d c.args.status) c.args.area.now c.args.device _
+    (sym c.find.ensures ∙ c.in-At.is)
 
-poll-status-requires : tie.Need-poll-status-requires
-poll-status-requires c κs =
-    let r = c.before in
-    let m = r.before.before.before in
-    let f = m.before.before in
-    let s = f.before.before.before in
-    its_record (λ d. sets_poll_status d s.args.status) s.args.area.now s.args.device _
-    (sym f.find.ensures ∙ m.i.given.1) (λ j. (f.before.before.slice-known.given j).fits)
-    r.record-start.result r.record-start.ensures
+poll_status-requires : tie.Need-poll_status-requires
+poll_status-requires c κs =
+    its_record (λ d. sets_poll_status d c.args.status) c.args.area.now c.args.device _
+    (sym c.find.ensures ∙ c.in-At.is) (λ j. (c.slice_known-1.given j).fits)
+    c.record_start-at.result c.record_start-at.ensures
 
-returns-2 : tie.Need-returns-2
-returns-2 c =
-    let l = c.before.before in
-    let r = l.before.before in
-    let m = r.before.before.before in
-    let f = m.before.before in
-    let s = f.before.before.before in
-    made (λ d. sets_poll_status d s.args.status) s.args.area.now s.args.device _
-    (sym f.find.ensures ∙ m.i.given.1) (λ j. (f.before.before.slice-known.given j).fits)
-    r.record-start.result r.record-start.ensures (λ d g. poll_status_good d s.args.status g) _ _
-    l.poll-status.ensures
+returns-in-At : tie.Need-returns-in-At
+returns-in-At c =
+    made (λ d. sets_poll_status d c.args.status) c.args.area.now c.args.device _
+    (sym c.find.ensures ∙ c.in-At.is) (λ j. (c.slice_known-1.given j).fits)
+    c.record_start-at.result c.record_start-at.ensures (λ d g. poll_status_good d c.args.status g) _ _
+    c.poll_status.ensures
 
 pub poll_status_spec : {M : Type 1} → statement M
 poll_status_spec =
@@ -52,13 +37,13 @@ poll_status_spec =
     (λ c κs. search rules)
     (λ c. search rules)
     (λ c. search rules)
-    record-start-requires
+    record_start-at-requires
     (λ c. search rules)
     (λ c. search rules)
     (λ c. search rules)
     (λ c. search rules)
-    poll-status-requires
+    poll_status-requires
     (λ c. search rules)
-    returns
+    returns-in-Refused
     (λ c. search rules)
-    returns-2)
+    returns-in-At)

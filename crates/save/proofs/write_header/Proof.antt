@@ -4,7 +4,7 @@ use Rattle.save.proofs.write_header.Statement.{statement}
 use Rattle.save.proofs.write_header.Tie as tie
 
 returns : tie.Need-returns
-returns c = rw c.before.before.write-record.ensures
+returns c = rw c.write_record.ensures
 
 pub write_header_spec : {M : Type 1} → statement M
 write_header_spec =

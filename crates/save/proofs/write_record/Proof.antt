@@ -11,14 +11,10 @@ use Rattle.save.proofs.write_record.Tie as tie
 returns : tie.Need-returns
 unfolding recorded
 returns c =
-    let f = c.before.before in
-    let y = f.before.before.before.before in
-    let h = y.before.before.before in
-    let s = h.before.before.before in
-    rw (← h.head_of.ensures)
-    (headed head_size h.head_of.result s.args.body.now s.args.to.now _ _
-    (ap length h.head_of.ensures ∙ head_wide s.args.kind _) s.requires.0 y.copy.ensures.1
-    f.fill.ensures)
+    rw (← c.head_of-head.ensures)
+    (headed head_size c.head_of-head.result c.args.body.now c.args.to.now _ _
+    (ap length c.head_of-head.ensures ∙ head_wide c.args.kind _) c.requires.0 c.copy.ensures.1
+    c.fill.ensures)
 
 pub write_record_spec : {M : Type 1} → statement M
 write_record_spec =

@@ -25,35 +25,27 @@ unfolding saved
 together a p ds ls n m l j k from at c x y z f g q r u v =
     rw (x, y, z, rest_is from a, rest_is at a, f, g, q, r, u, v, c)
 
-out_prefix : tie.Need-slice-aggregate-write-header
-out_prefix c = let s = c.before.before.before.before in
-    sym (length-take-le saved_header_size s.args.out.now (search rules))
+out_prefix : tie.Need-slice_bounds-write_header-end-2
+out_prefix c = sym (length-take-le saved_header_size c.args.out.now (search rules))
 
-area_prefix : tie.Need-slice-aggregate-write-header-2
-area_prefix c = let s = c.before.before.before.before.before in
-    sym (length-take-le header_size s.args.area.now (search rules))
+area_prefix : tie.Need-slice_bounds-write_header-end-3
+area_prefix c = sym (length-take-le header_size c.args.area.now (search rules))
 
-write-header-requires : tie.Need-write-header-requires
-write-header-requires c κs =
-    let s = c.before.before.before.before.before in
+write_header-requires : tie.Need-write_header-requires
+write_header-requires c κs =
     rw (
-      length-take-le saved_header_size s.args.out.now (search rules),
-      length-take-le header_size s.args.area.now (search rules),
+      length-take-le saved_header_size c.args.out.now (search rules),
+      length-take-le header_size c.args.area.now (search rules),
     )
     (omega arith, refl)
 
 returns : tie.Need-returns
 returns c =
-    let y = c.before.before in
-    let d = y.before.before.before.before.before in
-    let h = d.before.before.before.before.before in
-    let k = h.before.before.before in
-    let s = k.before.before.before in
-    three saved_header_size k.links-at.result s.args.out.now h.write-header.new.0
-    d.write-run.new.1.0 y.write-run2.new.1.0 (omega arith) (search rules) h.write-header.auto.0
-    d.write-run.auto.1.0 y.write-run2.auto.1.0
-    ∙ together s.args.area.now _ _ _ s.args.n _ _ _ _ _ _ s.requires.1 h.write-header.ensures
-    d.write-run.ensures y.write-run2.ensures refl (omega arith) refl refl (omega arith) (omega arith)
+    three saved_header_size c.links_at-at.result c.args.out.now c.write_header.new.to
+    c.write_run.new.to c.write_run-2.new.to (omega arith) (search rules) c.write_header.auto.to
+    c.write_run.auto.to c.write_run-2.auto.to
+    ∙ together c.args.area.now _ _ _ c.args.n _ _ _ _ _ _ c.requires.1 c.write_header.ensures
+    c.write_run.ensures c.write_run-2.ensures refl (omega arith) refl refl (omega arith) (omega arith)
 
 pub write_records_spec : {M : Type 1} → statement M
 write_records_spec =
@@ -65,7 +57,7 @@ write_records_spec =
     (λ c. search rules)
     out_prefix
     area_prefix
-    write-header-requires
+    write_header-requires
     (λ c. search rules)
     (λ c. search rules)
     (λ c. search rules)

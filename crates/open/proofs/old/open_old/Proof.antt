@@ -21,25 +21,18 @@ tested : (s : List ℕ) (t : Bool) (n from : ℕ) → n ≡ saved_count s → fr
     all zero_choice_in (saved_devices s) ≡ t
 tested s t n from c f e = sym (e ∙ rw (rest_is from s, f, c))
 
+returns-then-not-choices_zero : tie.Need-returns-then-not-choices_zero
+returns-then-not-choices_zero c =
+    let e = tested c.args.save.now _ c.args.n _ c.requires.0.count refl c.choices_zero.ensures in
+    rw (e ∙ not-true _ c.if-not-choices_zero.true-raw) (refl, refl)
+
 returns : tie.Need-returns
 returns c =
-    let k = c.before in
-    let s = k.before.before.before.before in
-    let e = tested s.args.save.now _ s.args.n _ s.requires.0.count refl k.choices-zero.ensures in
-    rw (e ∙ not-true _ c.if1.true) (refl, refl)
-
-returns-2 : tie.Need-returns-2
-returns-2 c =
-    let a = c.before.before in
-    let r = a.before.before.before.before in
-    let t = r.before.before in
-    let k = t.before in
-    let s = k.before.before.before.before in
-    let e = tested s.args.save.now _ s.args.n _ s.requires.0.count refl k.choices-zero.ensures in
-    rw (e ∙ not-false _ t.if1.false, a.ask.ensures, r.read-bodies.ensures) (
+    let e = tested c.args.save.now _ c.args.n _ c.requires.0.count refl c.choices_zero.ensures in
+    rw (e ∙ not-false _ c.if-not-choices_zero.false-raw, c.ask.ensures, c.read_bodies.ensures) (
       refl,
-      asked_in_place s.args.save.now (rw s.requires.0.count at s.requires.0.long) s.args.n
-          (record_at s.args.n) s.requires.0.count refl,
+      asked_in_place c.args.save.now (rw c.requires.0.count at c.requires.0.long) c.args.n
+          (record_at c.args.n) c.requires.0.count refl,
     )
 
 pub open_old_spec : {M : Type 1} → statement M
@@ -50,7 +43,7 @@ open_old_spec =
     (λ c. search rules)
     (λ c. search rules)
     (λ c κs. search rules)
-    returns
+    returns-then-not-choices_zero
     (λ c. search rules)
     (λ c. search rules)
     (λ c κs. search rules)
@@ -59,4 +52,4 @@ open_old_spec =
     (λ c. search rules)
     (λ c κs. search rules)
     (λ c. search rules)
-    returns-2)
+    returns)
