@@ -10,37 +10,26 @@ use borrow.Author.Rules.{rules}
 use Rattle.drain.proofs.can_hop.Statement.{statement}
 use Rattle.drain.proofs.can_hop.Tie as tie
 
+returns-in_default : tie.Need-returns-in_default
+returns-in_default c =
+    sym (can_empty c.args.i (loop_of c.args.area.now)
+    (sym c.oldest_at.ensures ∙ c.in_default.is))
+
+add_room_at : tie.Need-overflow_add-i
+add_room_at c =
+    omega (arith, c.requires.there, sized c.args.area.now c.requires.judged)
+
+returns-in_default-room_at : tie.Need-returns-in_default-room_at
+returns-in_default-room_at c =
+    let l = loop_of c.args.area.now in
+    sym (can_is c.args.i _ l (sym c.oldest_at.ensures ∙ c.in-Frame.is)
+    ∙ ap has_room (sym (rw add-one at c.room_at.ensures) ∙ c.in_default-room_at.is))
+
 returns : tie.Need-returns
 returns c =
-    let o = c.before.before in
-    let s = o.before.before in
-    sym (can_empty s.args.i (loop_of s.args.area.now)
-    (sym o.oldest-at.ensures ∙ c.enum-told2.given.1))
-
-add_room_at : tie.Need-overflow-add-room-at
-add_room_at c =
-    let s = c.before.before.before.before in
-    omega (arith, s.requires.there, sized s.args.area.now s.requires.judged)
-
-returns-2 : tie.Need-returns-2
-returns-2 c =
-    let q = c.before.before in
-    let e = q.before in
-    let o = e.before.before in
-    let s = o.before.before in
-    let l = loop_of s.args.area.now in
-    sym (can_is s.args.i _ l (sym o.oldest-at.ensures ∙ e.enum_told.given.1)
-    ∙ ap has_room (sym (rw add-one at q.room_at.ensures) ∙ c.enum-told4.given.1))
-
-returns-3 : tie.Need-returns-3
-returns-3 c =
-    let q = c.before.before in
-    let e = q.before in
-    let o = e.before.before in
-    let s = o.before.before in
-    let l = loop_of s.args.area.now in
-    sym (can_is s.args.i _ l (sym o.oldest-at.ensures ∙ e.enum_told.given.1)
-    ∙ ap has_room (sym (rw add-one at q.room_at.ensures) ∙ c.enum-told3.given.1))
+    let l = loop_of c.args.area.now in
+    sym (can_is c.args.i _ l (sym c.oldest_at.ensures ∙ c.in-Frame.is)
+    ∙ ap has_room (sym (rw add-one at c.room_at.ensures) ∙ c.in-Behind.is))
 
 pub can_hop_spec : {M : Type 1} → statement M
 can_hop_spec =
@@ -49,10 +38,10 @@ can_hop_spec =
     (λ c κs. search rules)
     (λ c. search rules)
     (λ c. search rules)
-    returns
+    returns-in_default
     add_room_at
     (λ c κs. search rules)
     (λ c. search rules)
     (λ c. search rules)
-    returns-2
-    returns-3)
+    returns-in_default-room_at
+    returns)

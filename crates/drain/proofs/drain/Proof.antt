@@ -5,22 +5,15 @@ use borrow.Author.Rules.{rules}
 use Rattle.drain.proofs.drain.Statement.{statement}
 use Rattle.drain.proofs.drain.Tie as tie
 
+returns-then-wrong-ne0 : tie.Need-returns-then-wrong-ne0
+returns-then-wrong-ne0 c =
+    judged_wrong no_drain (drain_in c.args.budget) c.args.area.now _ _ c.judge-wrong.ensures c.if-wrong-ne0.true
+    c.no_drain.ensures
+
 returns : tie.Need-returns
 returns c =
-    let i = c.before in
-    let j = i.before in
-    let s = j.before.before.before in
-    judged_wrong no_drain (drain_in s.args.budget) s.args.area.now _ _ j.judge.ensures i.if1.true
-    c.no-drain.ensures
-
-returns-2 : tie.Need-returns-2
-returns-2 c =
-    let d = c.before.before in
-    let i = d.before.before in
-    let j = i.before in
-    let s = j.before.before.before in
-    judged_right no_drain (drain_in s.args.budget) s.args.area.now _ _ _ j.judge.ensures i.if1.false
-    d.drain-in.ensures
+    judged_right no_drain (drain_in c.args.budget) c.args.area.now _ _ _ c.judge-wrong.ensures c.if-wrong-ne0.false
+    c.drain_in.ensures
 
 pub drain_spec : {M : Type 1} → statement M
 drain_spec =
@@ -29,7 +22,7 @@ drain_spec =
     (λ c κs. search rules)
     (λ c κs. search rules)
     (λ c. search rules)
-    returns
+    returns-then-wrong-ne0
     (λ c κs. search rules)
     (λ c. search rules)
-    returns-2)
+    returns)

@@ -19,7 +19,7 @@ returns-then-not-form_right c =
     (sym c.form_right.ensures ∙ not-true _ c.if-not-form_right.true-raw)) (refl, refl)
 
 -- past the first test the save has the form
-right : (c : tie.After-shared_slice_known-2-1) →
+right : (c : tie.Else-not-form_right) →
     formed most_devices c.args.save.now ≡ true
 right c = sym c.form_right.ensures ∙ not-false _ c.if-not-form_right.false-raw
 
@@ -27,11 +27,11 @@ right c = sym c.form_right.ensures ∙ not-false _ c.if-not-form_right.false-raw
 of_count : (c : tie.After-shared_slice_known-2-1) →
     let s = c.args.save.now in SaveOf (saved_count s) s
 of_count c =
-    let f = is_formed most_devices _ (right c) in
+    let f = is_formed most_devices _ (right c.before) in
     record { count = refl; small = omega (arith, f.few); long = f.long }
 
 save_read : tie.Need-bounds-save-6
-save_read c = omega (arith, is_formed most_devices _ (right c))
+save_read c = omega (arith, is_formed most_devices _ (right c.before))
 
 cast_n : tie.Need-overflow_cast-n
 cast_n c = omega (arith, c.shared_slice_known-2-1.given 6)
@@ -41,8 +41,8 @@ area_size-requires c κs = omega (arith, c.shared_slice_known-2-1.given 6)
 
 returns-then-area-area_size : tie.Need-returns-then-area-area_size
 returns-then-area-area_size c =
-    rw (open_shape most_devices c.args.area.now c.args.save.now (right c.before.before)
-    (λ e. omega (arith, e, c.if-area-area_size.true, c.area_size.ensures, is_formed most_devices _ (right c.before.before))))
+    rw (open_shape most_devices c.args.area.now c.args.save.now (right c.before.before.before)
+    (λ e. omega (arith, e, c.if-area-area_size.true, c.area_size.ensures, is_formed most_devices _ (right c.before.before.before))))
     (refl, refl)
 
 bodies_sound-requires : tie.Need-bodies_sound-requires
@@ -50,12 +50,12 @@ bodies_sound-requires c κs = of_count c.before.before
 
 returns-then-not-bodies_sound : tie.Need-returns-then-not-bodies_sound
 returns-then-not-bodies_sound c =
-    rw (open_unsound most_devices c.args.area.now c.args.save.now (right c.before.before.before.before)
+    rw (open_unsound most_devices c.args.area.now c.args.save.now (right c.before.before.before.before.before)
     (omega (arith, c.if-area-area_size.false, c.area_size.ensures))
     (sym c.bodies_sound.ensures ∙ not-true _ c.if-not-bodies_sound.true-raw)) (refl, refl)
 
 edition_read : tie.Need-bounds-save-7
-edition_read c = omega (arith, is_formed most_devices _ (right c.before.before.before.before.before))
+edition_read c = omega (arith, is_formed most_devices _ (right c.before.before.before.before.before.before))
 
 open_old-requires : tie.Need-open_old-requires
 open_old-requires c κs =
@@ -63,7 +63,7 @@ open_old-requires c κs =
 
 returns-then-save-eq-EDITION_OLD : tie.Need-returns-then-save-eq-EDITION_OLD
 returns-then-save-eq-EDITION_OLD c =
-    rw (open_old most_devices c.args.area.now c.args.save.now (right c.before.before.before.before.before.before.before.before.before.before)
+    rw (open_old most_devices c.args.area.now c.args.save.now (right c.before.before.before.before.before.before.before.before.before.before.before)
     (omega (arith, c.if-area-area_size.false, c.area_size.ensures)) (sym c.bodies_sound.ensures ∙ not-false _ c.if-not-bodies_sound.false-raw)
     (omega (arith, c.if-save-eq-EDITION_OLD.true)))
     c.open_old.ensures
@@ -74,7 +74,7 @@ read_bodies-requires c κs =
 
 returns : tie.Need-returns
 returns c =
-    rw (open_new most_devices c.args.area.now c.args.save.now (right c.before.before.before.before.before.before.before.before.before.before)
+    rw (open_new most_devices c.args.area.now c.args.save.now (right c.before.before.before.before.before.before.before.before.before.before.before)
     (omega (arith, c.if-area-area_size.false, c.area_size.ensures)) (sym c.bodies_sound.ensures ∙ not-false _ c.if-not-bodies_sound.false-raw)
     (λ q. omega (arith, q, c.if-save-eq-EDITION_OLD.false)))
     (refl, c.read_bodies.ensures)

@@ -5,16 +5,13 @@ use Rattle.text.proofs.Splices.{nothing}
 use Rattle.round.proofs.hand.Statement.{statement}
 use Rattle.round.proofs.hand.Tie as tie
 
+returns-then-hop-eq1 : tie.Need-returns-then-hop-eq1
+returns-then-hop-eq1 c =
+    rw (eq-eqb c.args.hop.handed 1 c.if-hop-eq1.true) c.hand_line.ensures
+
 returns : tie.Need-returns
 returns c =
-    let h = c.before.before in
-    let i = h.before.before in
-    rw (eq-eqb i.before.before.before.args.hop.handed 1 i.if1.true) h.hand-line.ensures
-
-returns-2 : tie.Need-returns-2
-returns-2 c =
-    let s = c.before.before.before in
-    rw (ne_eqb s.args.hop.handed 1 c.if1.false) (nothing s.args.out.now s.args.at)
+    rw (ne_eqb c.args.hop.handed 1 c.if-hop-eq1.false) (nothing c.args.out.now c.args.at)
 
 pub hand_spec : {M : Type 1} → statement M
-hand_spec = tie.close (tie.spec (λ c κs. search rules) (λ c. search rules) returns returns-2)
+hand_spec = tie.close (tie.spec (λ c κs. search rules) (λ c. search rules) returns-then-hop-eq1 returns)

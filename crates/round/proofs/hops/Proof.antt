@@ -10,78 +10,68 @@ use Rattle.round.proofs.Hopping.{Hopping}
 use Rattle.round.proofs.hops.Statement.{statement}
 use Rattle.round.proofs.hops.Tie as tie
 
-abbrev invariant-loop : tie.invariant-loop
-invariant-loop area₀ out₀ n at₀ i₀ area out at i = Hopping n area₀ out₀ i area at out
+abbrev invariant-loop-i : tie.invariant-loop-i
+invariant-loop-i area₀ out₀ n at₀ i₀ area out at i = Hopping n area₀ out₀ i area at out
 
-abbrev decreases-loop : tie.decreases-loop
-decreases-loop area₀ out₀ n at₀ i₀ area out at i = n - i
+abbrev decreases-loop-i : tie.decreases-loop-i
+decreases-loop-i area₀ out₀ n at₀ i₀ area out at i = n - i
 
 -- the lent area is a sound loop's
-area : (c : tie.After-devices-in invariant-loop decreases-loop) → Area c.devices-in.result
-    c.before.before.before.before.args.area.now
+area : (c : tie.After-devices_in-n invariant-loop-i decreases-loop-i) → Area c.devices_in-n.result
+    c.args.area.now
 area c =
-    let k = c.before.before.before in
-    rw c.devices-in.ensures.0 (area_held k.before.args.area.now (λ i. (k.slice-known.given i).fits)
-    k.before.requires.0)
+    rw c.devices_in-n.ensures.0 (area_held c.args.area.now (λ i. (c.slice_known-1.given i).fits)
+    c.requires.0)
 
-loop-holds : tie.Need-loop-init invariant-loop decreases-loop
+loop-holds : tie.Need-loop-i-init invariant-loop-i decreases-loop-i
 loop-holds c =
-    let s = c.before.before.before.before in laws.starts c.devices-in.result s.args.area.now
-    s.args.out.now (area c)
+    laws.starts c.devices_in-n.result c.args.area.now
+    c.args.out.now (area c)
 
-hop-at-requires : tie.Need-hop-at-requires invariant-loop decreases-loop
-hop-at-requires c κs =
-    let h = c.before.before.loop.invariant.held in
-    record { judged = judged h; there = rw (devices h) c.before.loop-test.true }
+hop_at-hop-requires : tie.Need-hop_at-hop-requires invariant-loop-i decreases-loop-i
+hop_at-hop-requires c κs =
+    let h = c.loop-i.invariant.held in
+    record { judged = judged h; there = rw (devices h) c.loop-i-test.true }
 
-hand-requires : tie.Need-hand-requires invariant-loop decreases-loop
-hand-requires c κs =
-    let l = c.before.before.before.before.before.before in
-    let s = l.before.before.before.before.before in
-    let h = l.loop.invariant in
-    let t = c.before.before.before.before.before.loop-test.true in
-    (omega (arith, few h.held), omega (arith, few h.held, h.short, h.size, s.requires.1))
+hand-at-requires : tie.Need-hand-at-requires invariant-loop-i decreases-loop-i
+hand-at-requires c κs =
+    let h = c.loop-i.invariant in
+    let t = c.loop-i-test.true in
+    (omega (arith, few h.held), omega (arith, few h.held, h.short, h.size, c.requires.1))
 
-loop-again : tie.Need-loop-preserved invariant-loop decreases-loop
+loop-again : tie.Need-loop-i-preserved invariant-loop-i decreases-loop-i
 loop-again c =
-    let w = c.before.before in
-    let p = w.before.before.before.before in
-    let t = p.before.before in
-    let l = t.before in
-    let s = l.before.before.before.before.before in
-    laws.hops l.before.devices-in.result s.args.area.now s.args.out.now l.loop.i l.loop.area
-    l.loop.at l.loop.out
-    p.hop-at.result p.hop-at.new.0 w.hand.result w.hand.new.0 s.requires.1 l.loop.invariant
-    t.loop-test.true
-    p.hop-at.ensures w.hand.ensures
+    laws.hops c.devices_in-n.result c.args.area.now c.args.out.now c.loop-i.i c.loop-i.area
+    c.loop-i.at c.loop-i.out
+    c.hop_at-hop.result c.hop_at-hop.new.area c.hand-at.result c.hand-at.new.out c.requires.1 c.loop-i.invariant
+    c.loop-i-test.true
+    c.hop_at-hop.ensures c.hand-at.ensures
 
-same_length : tie.Need-same-length invariant-loop decreases-loop
-same_length c = let l = c.before in long l.loop.invariant.held ∙ sym (long (area l.before))
+same_length : tie.Need-shape_of-area invariant-loop-i decreases-loop-i
+same_length c = long c.loop-i.invariant.held ∙ sym (long (area c.before.before))
 
-same-length-2 : tie.Need-same-length-2 invariant-loop decreases-loop
-same-length-2 c = c.before.loop.invariant.size
+shape_of-out : tie.Need-shape_of-out invariant-loop-i decreases-loop-i
+shape_of-out c = c.loop-i.invariant.size
 
-returns : tie.Need-returns invariant-loop decreases-loop
+returns : tie.Need-returns invariant-loop-i decreases-loop-i
 returns c =
-    let l = c.before in
-    let s = l.before.before.before.before.before in
-    laws.ends l.before.devices-in.result s.args.area.now s.args.out.now l.loop.i l.loop.area
-    l.loop.at l.loop.out
-    s.requires.1 (counted (area l.before)) l.loop.invariant (omega (arith, c.loop-test.false))
+    laws.ends c.devices_in-n.result c.args.area.now c.args.out.now c.loop-i.i c.loop-i.area
+    c.loop-i.at c.loop-i.out
+    c.requires.1 (counted (area c.before.before)) c.loop-i.invariant (omega (arith, c.loop-i-test.false))
 
 pub hops_spec : {M : Type 1} → statement M
 hops_spec =
     tie.close
     (tie.spec
-    invariant-loop
-    decreases-loop
+    invariant-loop-i
+    decreases-loop-i
     (λ c κs. search rules)
     loop-holds
-    hop-at-requires
-    hand-requires
+    hop_at-hop-requires
+    hand-at-requires
     (λ c. search rules)
     (λ c. search rules)
     loop-again
     same_length
-    same-length-2
+    shape_of-out
     returns)

@@ -9,40 +9,30 @@ use Rattle.round.proofs.round.Statement.{statement}
 use Rattle.round.proofs.round.Tie as tie
 
 -- the lent area is a sound loop's
-area : (c : tie.After-slice-known) → Area (size (loop_of c.before.args.area.now)) c.before.args.area.now
-area c = area_held c.before.args.area.now (λ i. (c.slice-known.given i).fits) c.before.requires.0
+area : (c : tie.After-slice_known-1) → Area (size (loop_of c.args.area.now)) c.args.area.now
+area c = area_held c.args.area.now (λ i. (c.slice_known-1.given i).fits) c.requires.0
 
-hops-requires : tie.Need-hops-requires
-hops-requires c κs =
-    let p = c.before.before.before.before in
-    let k = p.before.before.before in (
-      rw p.put.ensures.1 (judged (put_held k.before.args.frame (area k))),
-      omega (arith, k.before.requires.1),
+hops-at-requires : tie.Need-hops-at-requires
+hops-at-requires c κs =
+    (
+      rw c.put.ensures.1 (judged (put_held c.args.frame (area c.before.before.before.before.before.before.before))),
+      omega (arith, c.requires.1),
     )
 
-frame-line-requires : tie.Need-frame-line-requires
-frame-line-requires c κs =
-    let h = c.before.before.before.before.before.before.before.before.before in
-    omega (arith, h.hops.ensures.room, h.hops.auto)
+frame_line-requires : tie.Need-frame_line-requires
+frame_line-requires c κs =
+    omega (arith, c.hops-at.ensures.room, c.hops-at.auto)
 
-same_length : tie.Need-same-length
+same_length : tie.Need-shape_of-area
 same_length c =
-    let t = c.before.before.before.before.before.before in
-    let h = t.before.before.before.before.before.before in
-    let p = h.before.before.before.before.before in
-    t.take.auto.0 ∙ h.hops.auto.0 ∙ p.put.auto.0
+    c.take-taken.auto.area ∙ c.hops-at.auto.area ∙ c.put.auto.area
 
 returns : tie.Need-returns
 returns c =
-    let w = c.before.before in
-    let t = w.before.before.before.before in
-    let h = t.before.before.before.before.before.before in
-    let p = h.before.before.before.before.before in
-    let k = p.before.before.before in
-    let frame = k.before.args.frame in
-    let put = p.put.ensures.1 in (
-      round_area_lem frame (area k) put h.hops.ensures t.take.ensures,
-      round_text_lem frame (area k) put h.hops.ensures t.take.ensures w.frame-line.ensures,
+    let frame = c.args.frame in
+    let put = c.put.ensures.1 in (
+      round_area_lem frame (area c.before.before.before.before.before.before.before.before.before.before.before.before.before.before.before.before.before.before.before.before) put c.hops-at.ensures c.take-taken.ensures,
+      round_text_lem frame (area c.before.before.before.before.before.before.before.before.before.before.before.before.before.before.before.before.before.before.before.before) put c.hops-at.ensures c.take-taken.ensures c.frame_line.ensures,
     )
 
 pub round_spec : {M : Type 1} → statement M
@@ -50,9 +40,9 @@ round_spec =
     tie.close
     (tie.spec
     (λ c κs. search rules)
-    hops-requires
+    hops-at-requires
     (λ c κs. search rules)
-    frame-line-requires
+    frame_line-requires
     same_length
     (λ c. search rules)
     returns)

@@ -16,72 +16,63 @@ use Rattle.lister.proofs.Doing.{Lent, lent, not_roomy, not_count, ready_is}
 use Rattle.lister.proofs.list.is_ready.Statement.{statement}
 use Rattle.lister.proofs.list.is_ready.Tie as tie
 
-returns : tie.Need-returns
-returns c =
-    let r = c.before in
-    let s = r.before.before.before in
-    sym (not_roomy s.args.number s.args.area.now (length s.args.out.now)
-    (sym r.is-roomy.ensures ∙ not-true r.is-roomy.result c.if1.true))
+returns-then-not-is_roomy : tie.Need-returns-then-not-is_roomy
+returns-then-not-is_roomy c =
+    sym (not_roomy c.args.number c.args.area.now (length c.args.out.now)
+    (sym c.is_roomy.ensures ∙ not-true c.is_roomy.result c.if-not-is_roomy.true-raw))
 
 -- the room is there
-room : (c : tie.Else1) → roomy c.before.before.before.before.args.area.now
-    (length c.before.before.before.before.args.out.now) ≡ true
-room c = sym c.before.is-roomy.ensures ∙ not-false c.before.is-roomy.result c.if1.false
+room : (c : tie.Else-not-is_roomy) → roomy c.args.area.now
+    (length c.args.out.now) ≡ true
+room c = sym c.is_roomy.ensures ∙ not-false c.is_roomy.result c.if-not-is_roomy.false-raw
 
-given : (c : tie.Else1) → Lent c.before.before.before.before.args.area.now
-    (length c.before.before.before.before.args.out.now)
-given c = lent c.before.before.before.before.args.area.now
-    (length c.before.before.before.before.args.out.now) (room c)
+given : (c : tie.Else-not-is_roomy) → Lent c.args.area.now
+    (length c.args.out.now)
+given c = lent c.args.area.now
+    (length c.args.out.now) (room c)
 
-shared-slice-read-n : tie.Need-shared-slice-read-n
-shared-slice-read-n c = omega (arith, (given c.before).area)
+bounds-area-0 : tie.Need-bounds-area-0
+bounds-area-0 c = omega (arith, (given c.before).area)
 
-cast_n : tie.Need-overflow-cast-n
-cast_n c = omega (arith, c.shared-slice-known3.given 0)
+cast_n : tie.Need-overflow_cast-n
+cast_n c = omega (arith, c.shared_slice_known-3-1.given 0)
 
-returns-2 : tie.Need-returns-2
-returns-2 c =
-    let k = c.before in
-    let s = k.before.before.before.before.before.before in
-    sym (not_count s.args.number s.args.area.now (length s.args.out.now)
-    (sym k.is-count.ensures ∙ not-true k.is-count.result c.if2.true))
+returns-then-not-is_count : tie.Need-returns-then-not-is_count
+returns-then-not-is_count c =
+    sym (not_count c.args.number c.args.area.now (length c.args.out.now)
+    (sym c.is_count.ensures ∙ not-true c.is_count.result c.if-not-is_count.true-raw))
 
 -- a loop can have so many
-few : (c : tie.Else2) →
-    count_in c.before.before.before.before.before.before.before.args.area.now ≤ most_devices
+few : (c : tie.Else-not-is_count) →
+    count_in c.args.area.now ≤ most_devices
 few c =
-    few_counted most_devices (count_in c.before.before.before.before.before.before.before.args.area.now)
-    (sym c.before.is-count.ensures ∙ not-false c.before.is-count.result c.if2.false)
+    few_counted most_devices (count_in c.args.area.now)
+    (sym c.is_count.ensures ∙ not-false c.is_count.result c.if-not-is_count.false-raw)
 
-area-size-requires : tie.Need-area-size-requires
-area-size-requires c κs = omega (arith, few c)
+area_size-size-requires : tie.Need-area_size-size-requires
+area_size-size-requires c κs = omega (arith, few c)
 
 -- the loop's bytes
-slice-aggregate-judge : tie.Need-slice-aggregate-judge
-slice-aggregate-judge c =
-    let a = c.before in
-    let i = a.before in
-    sym (length-take-le _ _ (omega (arith, a.area-size.ensures, few i, (given i.before.before.before).area)))
+slice_bounds-judge-end : tie.Need-slice_bounds-judge-end
+slice_bounds-judge-end c =
+    sym (length-take-le _ _ (omega (arith, c.area_size-size.ensures, few c.before.before, (given c.before.before.before.before.before).area)))
 
-returns-3 : tie.Need-returns-3
-returns-3 c =
-    let a = c.before.before in
-    let e = a.before.before.before.before in
-    let s = e.before.before.before.before in
-    rw (c.judge.ensures, a.area-size.ensures)
-    (sym (ready_is s.args.number s.args.area.now (length s.args.out.now) (room e)))
+returns : tie.Need-returns
+returns c =
+    rw (c.judge.ensures, c.area_size-size.ensures)
+    (sym (ready_is c.args.number c.args.area.now (length c.args.out.now) (room c.before.before.before.before.before.before)))
 
 pub is_ready_spec : {M : Type 1} → statement M
 is_ready_spec =
     tie.close
     (tie.spec
     (λ c κs. search rules)
-    returns
-    shared-slice-read-n
+    returns-then-not-is_roomy
+    bounds-area-0
     cast_n
     (λ c κs. search rules)
-    returns-2
-    area-size-requires
-    slice-aggregate-judge
+    returns-then-not-is_count
+    area_size-size-requires
+    slice_bounds-judge-end
     (λ c κs. search rules)
-    returns-3)
+    returns)

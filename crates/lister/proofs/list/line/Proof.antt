@@ -11,58 +11,47 @@ use Rattle.lister.proofs.list.line.Tie as tie
 given : (s : tie.Start) → Ready s.args.number s.args.area.now (length s.args.out.now)
 given s = is_ready s.args.number s.args.area.now (length s.args.out.now) s.requires.0
 
-bad-line-requires : tie.Need-bad-line-requires
-bad-line-requires c κs =
+bad_line-requires : tie.Need-bad_line-requires
+bad_line-requires c κs =
     let g = given c.before.before.before.before.before.before.before in
     (omega (arith, g.number), omega (arith, g.lent.buffer))
 
-returns : tie.Need-returns
-returns c =
-    let w = c.before.before.before in
-    let t = w.before.before in
-    let f = t.before.before in
-    let s = f.before.before.before.before in
-    rw (line_wrong s.args.line.now s.args.at s.args.number s.args.area.now
-    (sym f.frame-in.ensures ∙ t.enum_told.given.1))
-    (did w.bad-line.ensures c.last.ensures.0 c.last.ensures.1 refl)
+returns-in_default : tie.Need-returns-in_default
+returns-in_default c =
+    rw (line_wrong c.args.line.now c.args.at c.args.number c.args.area.now
+    (sym c.frame_in.ensures ∙ c.in_default.is))
+    (did c.bad_line.ensures c.last.ensures.0 c.last.ensures.1 refl)
 
-slice-read-area-size : tie.Need-slice-read-area-size
-slice-read-area-size c =
+bounds-area-0 : tie.Need-bounds-area-0
+bounds-area-0 c =
     omega (arith, (given c.before.before.before.before.before.before.before.before).lent.area)
 
-cast_area_size : tie.Need-overflow-cast-area-size
-cast_area_size c = omega (arith, c.slice-known4.given 0)
+cast_area_size : tie.Need-overflow_cast-area
+cast_area_size c = omega (arith, c.slice_known-3-1.given 0)
 
-area-size-requires : tie.Need-area-size-requires
-area-size-requires c κs = omega (arith, (given c.before.before.before.before.before.before.before.before).few)
+area_size-size-requires : tie.Need-area_size-size-requires
+area_size-size-requires c κs = omega (arith, (given c.before.before.before.before.before.before.before.before).few)
 
 -- the loop's bytes
-part : tie.Need-slice-relend-prefix-round
+part : tie.Need-slice_bounds-round-end
 part c =
     let g = given c.before.before.before.before.before.before.before.before.before in
-    omega (arith, c.area-size.ensures, g.few, g.lent.area)
+    omega (arith, c.area_size-size.ensures, g.few, g.lent.area)
 
-round-requires : tie.Need-round-requires
-round-requires c κs =
-    let a = c.before.before in
-    let g = given a.before.before.before.before.before.before.before.before.before in
-    (rw a.area-size.ensures g.judged, omega (arith, g.lent.buffer))
+round-written-requires : tie.Need-round-written-requires
+round-written-requires c κs =
+    let g = given c.before.before.before.before.before.before.before.before.before.before.before in
+    (rw c.area_size-size.ensures g.judged, omega (arith, g.lent.buffer))
 
-add_number : tie.Need-overflow-add-t22
+add_number : tie.Need-overflow_add-result-3
 add_number c =
-    let a = c.before.before.before.before.before.before.before in
-    omega (arith, (given a.before.before.before.before.before.before.before.before.before).number)
+    omega (arith, (given c.before.before.before.before.before.before.before.before.before.before.before.before.before.before.before.before).number)
 
-returns-2 : tie.Need-returns-2
-returns-2 c =
-    let r = c.before.before.before.before in
-    let a = r.before.before.before in
-    let k = a.before.before in
-    let f = k.before.before.before in
-    let s = f.before.before.before.before in
-    line_round s.args.line.now s.args.at s.args.number s.args.area.now
-    (sym f.frame-in.ensures ∙ k.before.frame.given.1)
-    a.area-size.ensures r.round.ensures refl refl
+returns : tie.Need-returns
+returns c =
+    line_round c.args.line.now c.args.at c.args.number c.args.area.now
+    (sym c.frame_in.ensures ∙ c.in-Frame.is)
+    c.area_size-size.ensures c.round-written.ensures refl refl
 
 pub line_spec : {M : Type 1} → statement M
 line_spec =
@@ -71,19 +60,19 @@ line_spec =
     (λ c κs. search rules)
     (λ c. search rules)
     (λ c. search rules)
-    bad-line-requires
+    bad_line-requires
     (λ c κs. search rules)
     (λ c. search rules)
-    returns
-    slice-read-area-size
+    returns-in_default
+    bounds-area-0
     cast_area_size
-    area-size-requires
+    area_size-size-requires
     part
     (λ c. sym (length-take-le _ _ (part c.before)))
-    round-requires
+    round-written-requires
     (λ c. search rules)
     (λ c. search rules)
     add_number
     (λ c. search rules)
     (λ c. search rules)
-    returns-2)
+    returns)

@@ -20,51 +20,43 @@ told s = devices s.args.line.now s.args.n s.requires.0
 formed : (s : tie.Start) → Line1 s.args.line.now
 formed s = line1 s.args.line.now (told s).well-formed
 
-sub_items_in : tie.Need-overflow-sub-items-in
+sub_items_in : tie.Need-slice_bounds-items_in-count
 sub_items_in c = omega (arith, (formed c.before.before).long)
 
-part_start : tie.Need-slice-bounds-items-in-start
+part_start : tie.Need-slice_bounds-items_in-start
 part_start c = omega (arith, (formed c.before.before).long)
 
-items-in-requires : tie.Need-items-in-requires
-items-in-requires c κs =
-    let s = c.before.before.before.before in
-    let d = told s in
-    let l = formed s in
-    rw (rest_is word_size s.args.line.now, ← d.count)
+items_in-requires : tie.Need-items_in-requires
+items_in-requires c κs =
+    let d = told c.before.before.before.before in
+    let l = formed c.before.before.before.before in
+    rw (rest_is word_size c.args.line.now, ← d.count)
     (rw length-drop (omega (arith, l.long)), omega (arith, d.count, d.few), l.groups)
 
-area-size-requires : tie.Need-area-size-requires
-area-size-requires c κs = omega (arith, (told c.before.before.before.before.before.before).few)
+area_size-size-requires : tie.Need-area_size-size-requires
+area_size-size-requires c κs = omega (arith, (told c.before.before.before.before.before.before).few)
 
 -- the part of the area that is lent on
-part : (c : tie.After-area-size) → c.area-size.result ≤ length
-    c.before.before.before.before.before.before.before.args.area.now
+part : (c : tie.After-area_size-size) → c.area_size-size.result ≤ length
+    c.args.area.now
 part c =
-    let s = c.before.before.before.before.before.before.before in
-    omega (arith, c.area-size.ensures, (told s).few, s.requires.1)
+    omega (arith, c.area_size-size.ensures, (told c.before.before.before.before.before.before.before).few, c.requires.1)
 
-aggregate : tie.Need-slice-aggregate-set-up
+aggregate : tie.Need-slice_bounds-set_up-end-2
 aggregate c = sym (length-take-le _ _ (part c.before))
 
 -- the items that are lent on
-some_items : tie.Need-array-share-prefix-items
+some_items : tie.Need-slice_bounds-items-end
 some_items c =
-    let s = c.before.before.before.before.before.before.before.before in
-    let i = c.before.before.before in
-    omega (arith, (told s).few, i.items-in.auto.1.1.0)
+    omega (arith, (told c.before.before.before.before.before.before.before.before).few, c.items_in.auto.1.1.0)
 
-aggregate_2 : tie.Need-slice-aggregate-set-up-2
+aggregate_2 : tie.Need-slice_bounds-set_up-end-3
 aggregate_2 c = sym (length-take-le _ _ (some_items c.before))
 
 returns : tie.Need-returns
 returns c =
-    let p = c.before.before in
-    let a = p.before.before.before in
-    let i = a.before.before in
-    let s = i.before.before.before.before.before in
-    set_up_told s.args.line.now i.items-in.new.1.1.0 (told s) a.area-size.ensures
-    (front (omega arith) i.items-in.ensures) p.set_up.ensures
+    set_up_told c.args.line.now c.items_in.new.1.1.0 (told c.before.before.before.before.before.before.before.before.before.before.before.before) c.area_size-size.ensures
+    (front (omega arith) c.items_in.ensures) c.set_up.ensures
 
 pub set_up_spec : {M : Type 1} → statement M
 set_up_spec =
@@ -74,8 +66,8 @@ set_up_spec =
     part_start
     (λ c. search rules)
     (λ c. search rules)
-    items-in-requires
-    area-size-requires
+    items_in-requires
+    area_size-size-requires
     part
     aggregate
     (λ c. search rules)

@@ -11,49 +11,38 @@ use Rattle.lister.proofs.Doing.{did, found, step_refused, step_end, step_line}
 use Rattle.lister.proofs.list.step.Statement.{statement}
 use Rattle.lister.proofs.list.step.Tie as tie
 
-returns : tie.Need-returns
-returns c =
-    let r = c.before.before in
-    let s = r.before.before.before.before.before.before in
-    rw (step_refused s.args.input.now s.args.area.now s.args.at s.args.number
-    (length s.args.out.now) (sym r.is_ready.ensures ∙
-    not-true r.is_ready.result c.before.if1.true))
-    (did (nothing s.args.out.now 0) c.refused.ensures.0 c.refused.ensures.1 refl)
+returns-then-not-is_ready : tie.Need-returns-then-not-is_ready
+returns-then-not-is_ready c =
+    rw (step_refused c.args.input.now c.args.area.now c.args.at c.args.number
+    (length c.args.out.now) (sym c.is_ready.ensures ∙
+    not-true c.is_ready.result c.if-not-is_ready.true-raw))
+    (did (nothing c.args.out.now 0) c.refused.ensures.0 c.refused.ensures.1 refl)
 
 -- all is there
-here : (c : tie.Else1) →
-    ready c.before.before.before.before.before.before.before.args.number
-    c.before.before.before.before.before.before.before.args.area.now
-    (length c.before.before.before.before.before.before.before.args.out.now) ≡ true
-here c = sym c.before.is_ready.ensures ∙ not-false c.before.is_ready.result c.if1.false
+here : (c : tie.Else-not-is_ready) →
+    ready c.args.number
+    c.args.area.now
+    (length c.args.out.now) ≡ true
+here c = sym c.is_ready.ensures ∙ not-false c.is_ready.result c.if-not-is_ready.false-raw
 
-returns-2 : tie.Need-returns-2
-returns-2 c =
-    let i = c.before in
-    let s = i.before.before.before.before.before.before.before.before in
-    rw (step_end s.args.input.now s.args.area.now s.args.at s.args.number
-    (length s.args.out.now) (here i.before) i.if2.true)
-    (did (nothing s.args.out.now 0) c.last.ensures.0 c.last.ensures.1 refl)
+returns-then-input-at : tie.Need-returns-then-input-at
+returns-then-input-at c =
+    rw (step_end c.args.input.now c.args.area.now c.args.at c.args.number
+    (length c.args.out.now) (here c.before.before) c.if-input-at.true)
+    (did (nothing c.args.out.now 0) c.last.ensures.0 c.last.ensures.1 refl)
 
 line-requires : tie.Need-line-requires
 line-requires c κs =
-    let f = c.before.before.before in
-    let i = f.before in
-    let s = i.before.before.before.before.before.before.before.before in
-    (here i.before, rw length-take (omega (arith, i.if2.false, f.find.ensures.1, s.well-formed)))
+    (here c.before.before.before.before.before, rw length-take (omega (arith, c.if-input-at.false, c.find-end.ensures.1, c.well-formed)))
 
-returns-3 : tie.Need-returns-3
-returns-3 c =
-    let l = c.before.before.before.before in
-    let f = l.before.before.before.before in
-    let i = f.before in
-    let s = i.before.before.before.before.before.before.before.before in
+returns : tie.Need-returns
+returns c =
     rw (
-      step_line s.args.input.now s.args.area.now s.args.at s.args.number (length s.args.out.now)
-          (here i.before) i.if2.false,
-      ← found s.args.input.now s.args.at f.find.result f.find.ensures.0,
+      step_line c.args.input.now c.args.area.now c.args.at c.args.number (length c.args.out.now)
+          (here c.before.before.before.before.before.before.before.before.before.before) c.if-input-at.false,
+      ← found c.args.input.now c.args.at c.find-end.result c.find-end.ensures.0,
     )
-    l.line.ensures
+    c.line.ensures
 
 pub step_spec : {M : Type 1} → statement M
 step_spec =
@@ -63,11 +52,11 @@ step_spec =
     (λ c κs. search rules)
     (λ c. search rules)
     (λ c. search rules)
-    returns
+    returns-then-not-is_ready
     (λ c κs. search rules)
     (λ c. search rules)
     (λ c. search rules)
-    returns-2
+    returns-then-input-at
     (λ c κs. search rules)
     (λ c. search rules)
     (λ c. search rules)
@@ -75,4 +64,4 @@ step_spec =
     line-requires
     (λ c. search rules)
     (λ c. search rules)
-    returns-3)
+    returns)
