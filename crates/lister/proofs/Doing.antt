@@ -186,9 +186,10 @@ module _ (n : ℕ) (a : List ℕ) (room : ℕ) where
 
 pub found : (input : List ℕ) (at e : ℕ) → e ≡ at + index_of newline (slice at (length input) input) →
     take (e - at) (drop at input) ≡ line_at at input
-unfolding slice
 found input at e h =
-    let f : e ≡ at + index_of newline (drop at input) = rw take-length at h in
+    let whole : take (length input - at) (drop at input) ≡ drop at input =
+        rw (← length-drop at input) (take-length (drop at input)) in
+    let f : e ≡ at + index_of newline (drop at input) = rw whole at h in
     rw (f, add-sub_cancel_left at (index_of newline (drop at input)))
 
 -- ---- the first call

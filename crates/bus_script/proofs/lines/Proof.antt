@@ -7,42 +7,39 @@ use Rattle.bus_script.proofs.Written.{Lined, starts, ends_at, room_kept, line_mo
 use Rattle.bus_script.proofs.lines.Statement.{statement}
 use Rattle.bus_script.proofs.lines.Tie as tie
 
-abbrev invariant-loop : tie.invariant-loop
-invariant-loop frames out₀ at₀ i₀ out at i = Lined frames out₀ i at out
+abbrev invariant-loop-i : tie.invariant-loop-i
+invariant-loop-i frames out₀ at₀ i₀ out at i = Lined frames out₀ i at out
 
-abbrev decreases-loop : tie.decreases-loop
-decreases-loop frames out₀ at₀ i₀ out at i = length frames - i
+abbrev decreases-loop-i : tie.decreases-loop-i
+decreases-loop-i frames out₀ at₀ i₀ out at i = length frames - i
 
-loop-holds : tie.Need-loop-init invariant-loop decreases-loop
-loop-holds c = starts c.before.before.requires
+loop-holds : tie.Need-loop-i-init invariant-loop-i decreases-loop-i
+loop-holds c = starts c.requires
 
-script-line-requires : tie.Need-script-line-requires invariant-loop decreases-loop
-script-line-requires c κs =
-    let t = c.before.before in
-    let l = t.before.loop.invariant in omega (arith, ends_at l, room_kept l, l.fits, t.loop-test.true)
+script_line-at-requires : tie.Need-script_line-at-requires invariant-loop-i decreases-loop-i
+script_line-at-requires c κs =
+    let l = c.loop-i.invariant in omega (arith, ends_at l, room_kept l, l.fits, c.loop-i-test.true)
 
-loop-again : tie.Need-loop-preserved invariant-loop decreases-loop
+loop-again : tie.Need-loop-i-preserved invariant-loop-i decreases-loop-i
 loop-again c =
-    let w = c.before.before in
-    let t = w.before.before.before in
-    line_more t.before.loop.invariant t.loop-test.true w.script-line.ensures
+    line_more c.loop-i.invariant c.loop-i-test.true c.script_line-at.ensures
 
-same_length : tie.Need-same-length invariant-loop decreases-loop
-same_length c = room_kept c.before.loop.invariant
+same_length : tie.Need-shape_of-out invariant-loop-i decreases-loop-i
+same_length c = room_kept c.loop-i.invariant
 
-returns : tie.Need-returns invariant-loop decreases-loop
-returns c = all_lined c.before.loop.invariant c.loop-test.false
+returns : tie.Need-returns invariant-loop-i decreases-loop-i
+returns c = all_lined c.loop-i.invariant c.loop-i-test.false
 
 pub lines_spec : {M : Type 1} → statement M
 lines_spec =
     tie.close
     (tie.spec
-    invariant-loop
-    decreases-loop
+    invariant-loop-i
+    decreases-loop-i
     loop-holds
     (λ c. search rules)
     (λ c. search rules)
-    script-line-requires
+    script_line-at-requires
     (λ c. search rules)
     (λ c. search rules)
     loop-again

@@ -6,27 +6,24 @@ use Rattle.bus_script.specs.Listing.{bus_listing}
 use Rattle.bus_script.proofs.list.Statement.{statement}
 use Rattle.bus_script.proofs.list.Tie as tie
 
+returns-then-row-gt-LONGEST : tie.Need-returns-then-row-gt-LONGEST
+unfolding bus_listing
+returns-then-row-gt-LONGEST c =
+    rw (lt-ltb longest _ c.if-row-gt-LONGEST.true) c.put.ensures
+
 returns : tie.Need-returns
 unfolding bus_listing
 returns c =
-    let p = c.before.before in
-    let i = p.before.before.before in rw (lt-ltb longest _ i.if1.true) p.put.ensures
-
-returns-2 : tie.Need-returns-2
-unfolding bus_listing
-returns-2 c =
-    let w = c.before.before.before in
-    let i = w.before.before.before in rw (le-ltb longest _ i.if1.false) w.row-lines.ensures
+    rw (le-ltb longest _ c.if-row-gt-LONGEST.false) c.row_lines.ensures
 
 pub list_spec : {M : Type 1} → statement M
 list_spec =
     tie.close
     (tie.spec
+    (λ c κs. search rules)
+    (λ c. search rules)
+    returns-then-row-gt-LONGEST
     (λ c. search rules)
     (λ c κs. search rules)
     (λ c. search rules)
-    returns
-    (λ c. search rules)
-    (λ c κs. search rules)
-    (λ c. search rules)
-    returns-2)
+    returns)

@@ -12,58 +12,46 @@ use Rattle.bus_script.proofs.Written.{with_11, without_11, place_within}
 use Rattle.bus_script.proofs.row_lines.Statement.{statement}
 use Rattle.bus_script.proofs.row_lines.Tie as tie
 
-bad-line-requires : tie.Need-bad-line-requires
-bad-line-requires c κs =
-    let i = c.before in
-    let m = i.before.before.before.before in
-    let s = m.before.before.before.before.before in
-    let b = with_11 s.args.row.now s.args.frames.now s.requires.1 m.import.ensures i.if1.true in
-    (omega (arith, b.1, place_within s.args.row.now b.0, s.requires.0), omega (arith, s.requires.2))
+bad_line-requires : tie.Need-bad_line-requires
+bad_line-requires c κs =
+    let b = with_11 c.args.row.now c.args.frames.now c.requires.1 c.import-found.ensures c.if-found-eq-NO_MATCH.true in
+    (omega (arith, b.1, place_within c.args.row.now b.0, c.requires.0), omega (arith, c.requires.2))
+
+returns-then-found-eq-NO_MATCH : tie.Need-returns-then-found-eq-NO_MATCH
+unfolding row_listed
+returns-then-found-eq-NO_MATCH c =
+    let b = with_11 c.args.row.now c.args.frames.now c.requires.1 c.import-found.ensures c.if-found-eq-NO_MATCH.true in
+    rw (b.0, ← b.1) c.bad_line.ensures
+
+slice_bounds-lines-end-2 : tie.Need-slice_bounds-lines-end-2
+slice_bounds-lines-end-2 c = sym (length-take-le _ _ (search rules))
+
+lines-requires : tie.Need-lines-requires
+lines-requires c κs =
+    rw length-take (omega (arith, c.requires.0, c.requires.2))
 
 returns : tie.Need-returns
 unfolding row_listed
 returns c =
-    let w = c.before.before in
-    let i = w.before.before in
-    let m = i.before.before.before.before in
-    let s = m.before.before.before.before.before in
-    let b = with_11 s.args.row.now s.args.frames.now s.requires.1 m.import.ensures i.if1.true in
-    rw (b.0, ← b.1) w.bad-line.ensures
-
-slice-aggregate-lines : tie.Need-slice-aggregate-lines
-slice-aggregate-lines c = sym (length-take-le _ _ (search rules))
-
-lines-requires : tie.Need-lines-requires
-lines-requires c κs =
-    let s = c.before.before.before.before.before.before.before.before.before.before.before in
-    rw length-take (omega (arith, s.requires.0, s.requires.2))
-
-returns-2 : tie.Need-returns-2
-unfolding row_listed
-returns-2 c =
-    let w = c.before.before in
-    let i = w.before.before.before in
-    let m = i.before.before.before.before in
-    let s = m.before.before.before.before.before in
-    let row = s.args.row.now in
-    let g = without_11 row s.args.frames.now s.requires.1 m.import.ensures i.if1.false in
-    let t = take_at (imported row) (drop (length (imported row)) s.args.frames.now) (2 * length row)
+    let row = c.args.row.now in
+    let g = without_11 row c.args.frames.now c.requires.1 c.import-found.ensures c.if-found-eq-NO_MATCH.false in
+    let t = take_at (imported row) (drop (length (imported row)) c.args.frames.now) (2 * length row)
     (lengths.of_import row) in
-    rw g.0 (rw (g.1, t) at w.lines.ensures)
+    rw g.0 (rw (g.1, t) at c.lines.ensures)
 
 pub row_lines_spec : {M : Type 1} → statement M
 row_lines_spec =
     tie.close
     (tie.spec
     (λ c κs. search rules)
-    bad-line-requires
+    bad_line-requires
     (λ c. search rules)
     (λ c. search rules)
-    returns
+    returns-then-found-eq-NO_MATCH
     (λ c. search rules)
     (λ c. search rules)
-    slice-aggregate-lines
+    slice_bounds-lines-end-2
     lines-requires
     (λ c. search rules)
     (λ c. search rules)
-    returns-2)
+    returns)

@@ -11,10 +11,10 @@ unfolding fits_with
 fits_spec =
     tie.close
     (tie.spec
-    (λ c. none_fit c.before.args.records.now c.before.args.told.now c.if1.true)
+    (λ c. none_fit c.args.records.now c.args.told.now c.if-records-eq0.true)
     (λ c. search rules)
-    (λ c. omega (arith, c.shared-slice-known.given 0))
-    (λ c. omega (arith, c.shared-slice-known.given 0))
-    (λ c. omega (arith, c.shared-slice-known.given 0))
-    (λ c. omega (arith, c.shared-slice-known.given 0))
+    (λ c. omega (arith, c.shared_slice_known-1.given 0))
+    (λ c. omega (arith, c.shared_slice_known-1.given 0))
+    (λ c. omega (arith, c.shared_slice_known-1.given 0))
+    (λ c. omega (arith, c.shared_slice_known-1.given 0))
     (λ c. search rules))

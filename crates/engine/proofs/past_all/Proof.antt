@@ -15,93 +15,74 @@ use Rattle.engine.proofs.Walking.{Walking, starts, is_record, steps, ends, good}
 use Rattle.engine.proofs.past_all.Statement.{statement}
 use Rattle.engine.proofs.past_all.Tie as tie
 
-abbrev invariant-loop : tie.invariant-loop
-invariant-loop records₀ frame told₀ n out₀ message₀ i₀ records told out message i =
+abbrev invariant-loop-i : tie.invariant-loop-i
+invariant-loop-i records₀ frame told₀ n out₀ message₀ i₀ records told out message i =
     (n ≡ count_in records₀) × (message ≡ decoded out) × Walking records₀ told₀ frame i records told out
 
-abbrev decreases-loop : tie.decreases-loop
-decreases-loop records₀ frame told₀ n out₀ message₀ i₀ records told out message i = n - i
+abbrev decreases-loop-i : tie.decreases-loop-i
+decreases-loop-i records₀ frame told₀ n out₀ message₀ i₀ records told out message i = n - i
 
 -- the devices are good, since the records are sound
-each_good : (c : tie.After-slice-known3 invariant-loop decreases-loop) →
-    let s = c.before.before.before in
-    (k : ℕ) → Good (get_or (devices_in s.args.records.now) k (device_of []))
+each_good : (c : tie.After-slice_known-3-1 invariant-loop-i decreases-loop-i) →
+    (k : ℕ) → Good (get_or (devices_in c.args.records.now) k (device_of []))
 each_good c =
-    let s = c.before.before.before in
-    good s.args.records.now s.args.told.now (λ i. (c.slice-known3.given i).fits) s.requires.0 s.requires.1
+    good c.args.records.now c.args.told.now (λ i. (c.slice_known-3-1.given i).fits) c.requires.0 c.requires.1
 
 -- a turn is made for one of the devices, at most 31
-near : (c : tie.In-loop invariant-loop decreases-loop) → c.before.loop.i < 31
+near : (c : tie.In-loop-i invariant-loop-i decreases-loop-i) → c.loop-i.i < 31
 near c =
-    let s = c.before.before.before.before.before.before in
-    omega (arith, c.loop-test.true, c.before.loop.invariant.0, s.requires.0.few)
+    omega (arith, c.loop-i-test.true, c.loop-i.invariant.0, c.requires.0.few)
 
-loop-holds : tie.Need-loop-init invariant-loop decreases-loop
+loop-holds : tie.Need-loop-i-init invariant-loop-i decreases-loop-i
 loop-holds c =
-    let k = c.before in
-    let s = k.before.before.before in (
+    (
       refl,
-      c.read.ensures,
-      starts s.args.records.now s.args.told.now s.args.frame (λ i. (k.slice-known3.given i).fits)
-          s.requires.0 s.requires.1,
+      c.read-message.ensures,
+      starts c.args.records.now c.args.told.now c.args.frame (λ i. (c.slice_known-3-1.given i).fits)
+          c.requires.0 c.requires.1,
     )
 
-take-requires : tie.Need-take-requires invariant-loop decreases-loop
-take-requires c κs =
-    let t = c.before in
-    let l = t.before in
-    let k = l.before.before in
-    let s = k.before.before.before in
-    let x = l.loop in (
-      is_record s.args.records.now s.args.told.now s.args.frame x.i x.records x.told x.out
-          x.invariant.2 t.loop-test.true (each_good k),
+take-passed-requires : tie.Need-take-passed-requires invariant-loop-i decreases-loop-i
+take-passed-requires c κs =
+    let x = c.loop-i in (
+      is_record c.args.records.now c.args.told.now c.args.frame x.i x.records x.told x.out
+          x.invariant.2 c.loop-i-test.true (each_good c.before.before.before.before),
       x.invariant.1,
     )
 
-part_tell_end : tie.Need-slice-bounds-tell-end invariant-loop decreases-loop
+part_tell_end : tie.Need-slice_bounds-tell-end invariant-loop-i decreases-loop-i
 part_tell_end c =
-    let t = c.before.before.before.before.before in
-    omega (arith, t.loop-test.true, t.before.loop.invariant.2.told)
+    omega (arith, c.loop-i-test.true, c.loop-i.invariant.2.told)
 
-tell-requires : tie.Need-tell-requires invariant-loop decreases-loop
+tell-requires : tie.Need-tell-requires invariant-loop-i decreases-loop-i
 tell-requires c κs =
-    let t = c.before.before.before.before.before.before in
-    let x = t.before.loop in
-    lent_wide x.told (4 * x.i) 4 (omega (arith, t.loop-test.true, x.invariant.2.told))
+    let x = c.loop-i in
+    lent_wide x.told (4 * x.i) 4 (omega (arith, c.loop-i-test.true, x.invariant.2.told))
 
-loop-again : tie.Need-loop-preserved invariant-loop decreases-loop
+loop-again : tie.Need-loop-i-preserved invariant-loop-i decreases-loop-i
 loop-again c =
-    let e = c.before.before in
-    let r = e.before.before in
-    let p = r.before.before.before in
-    let t = p.before.before in
-    let l = t.before in
-    let k = l.before.before in
-    let s = k.before.before.before in
-    let x = l.loop in (
+    let x = c.loop-i in (
       x.invariant.0,
-      r.read_again.ensures,
-      steps s.args.records.now s.args.told.now s.args.frame x.i x.records x.told x.out
-          x.invariant.2 t.loop-test.true (each_good k) p.take.new.0 e.tell.new.0 p.take.result
-          p.take.ensures.0 p.take.ensures.1 e.tell.ensures,
+      c.read_again-message.ensures,
+      steps c.args.records.now c.args.told.now c.args.frame x.i x.records x.told x.out
+          x.invariant.2 c.loop-i-test.true (each_good c.before.before.before.before.before.before.before.before.before.before.before.before) c.take-passed.new.rec c.tell.new.told c.take-passed.result
+          c.take-passed.ensures.0 c.take-passed.ensures.1 c.tell.ensures,
     )
 
-returns : tie.Need-returns invariant-loop decreases-loop
+returns : tie.Need-returns invariant-loop-i decreases-loop-i
 returns c =
-    let l = c.before in
-    let s = l.before.before.before.before.before in
-    let x = l.loop in
-    ends s.args.records.now s.args.told.now s.args.frame x.i x.records x.told x.out
-    x.invariant.2 c.loop-test.false
+    let x = c.loop-i in
+    ends c.args.records.now c.args.told.now c.args.frame x.i x.records x.told x.out
+    x.invariant.2 c.loop-i-test.false
 
 pub past_all_spec : {M : Type 1} → statement M
 past_all_spec =
     tie.close
     (tie.spec
-    invariant-loop
-    decreases-loop
-    (λ c. omega (arith, c.before.before.before.requires.0.long))
-    (λ c. omega (arith, c.slice-known3.given 0))
+    invariant-loop-i
+    decreases-loop-i
+    (λ c. omega (arith, c.requires.0.long))
+    (λ c. omega (arith, c.slice_known-3-1.given 0))
     (λ c κs. search rules)
     loop-holds
     (λ c. omega (arith, near c))
@@ -109,9 +90,9 @@ past_all_spec =
     (λ c. omega (arith, near c))
     (λ c. search rules)
     (λ c. search rules)
-    (λ c. omega (arith, c.loop-test.true, c.before.loop.invariant.2.long))
-    take-requires
-    (λ c κs. c.before.before.before.before.before.loop.invariant.1)
+    (λ c. omega (arith, c.loop-i-test.true, c.loop-i.invariant.2.long))
+    take-passed-requires
+    (λ c κs. c.loop-i.invariant.1)
     (λ c. omega (arith, near c.before.before.before.before.before))
     (λ c. omega (arith, near c.before.before.before.before.before))
     (λ c. search rules)
@@ -119,8 +100,8 @@ past_all_spec =
     part_tell_end
     tell-requires
     (λ c. omega (arith, near c.before.before.before.before.before.before.before.before.before))
-    (λ c. omega (arith, c.before.before.before.before.before.before.before.before.before.loop-test.true))
+    (λ c. omega (arith, c.loop-i-test.true))
     loop-again
-    (λ c. c.before.loop.invariant.2.long ∙ sym c.before.before.before.before.before.before.requires.0.long)
-    (λ c. c.before.loop.invariant.2.told ∙ sym c.before.before.before.before.before.before.requires.0.told)
+    (λ c. c.loop-i.invariant.2.long ∙ sym c.requires.0.long)
+    (λ c. c.loop-i.invariant.2.told ∙ sym c.requires.0.told)
     returns)

@@ -7,6 +7,6 @@ pub read_again_spec : {M : Type 1} → statement M
 read_again_spec =
     tie.close
     (tie.spec
-    (λ c. rw c.if1.true c.before.requires)
+    (λ c. rw c.if-frame-before.true c.requires)
     (λ c κs. search rules)
     (λ c. search rules))

@@ -5,25 +5,21 @@ use Rattle.walk.specs.Walk.{told_of}
 use Rattle.engine.proofs.tell.Statement.{statement}
 use Rattle.engine.proofs.tell.Tie as tie
 
-returns : tie.Need-returns
-returns c =
-    let w = c.before.before in
-    w.write.ensures ∙ sym (ap told_of w.before.before.enum_told.given.1)
+returns-in-Nothing : tie.Need-returns-in-Nothing
+returns-in-Nothing c =
+    c.write.ensures ∙ sym (ap told_of c.in-Nothing.is)
 
-returns-2 : tie.Need-returns-2
-returns-2 c =
-    let w = c.before.before in
-    w.write2.ensures ∙ sym (ap told_of w.before.before.before.handed.given.1)
+returns-in-Byte : tie.Need-returns-in-Byte
+returns-in-Byte c =
+    c.write-in-Byte.ensures ∙ sym (ap told_of c.in-Byte.is)
 
-returns-3 : tie.Need-returns-3
-returns-3 c =
-    let w = c.before.before in
-    w.write3.ensures ∙ sym (ap told_of w.before.before.enum-told2.given.1)
+returns-in-Clear : tie.Need-returns-in-Clear
+returns-in-Clear c =
+    c.write-in-Clear.ensures ∙ sym (ap told_of c.in-Clear.is)
 
-returns-4 : tie.Need-returns-4
-returns-4 c =
-    let w = c.before.before in
-    w.write4.ensures ∙ sym (ap told_of w.before.before.enum-told3.given.1)
+returns-in-Trigger : tie.Need-returns-in-Trigger
+returns-in-Trigger c =
+    c.write-in-Trigger.ensures ∙ sym (ap told_of c.in-Trigger.is)
 
 pub tell_spec : {M : Type 1} → statement M
 tell_spec =
@@ -38,10 +34,10 @@ tell_spec =
     (λ c. search rules)
     (λ c κs. search rules)
     (λ c. search rules)
-    returns
+    returns-in-Nothing
     (λ c. search rules)
-    returns-2
+    returns-in-Byte
     (λ c. search rules)
-    returns-3
+    returns-in-Clear
     (λ c. search rules)
-    returns-4)
+    returns-in-Trigger)

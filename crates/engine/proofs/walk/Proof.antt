@@ -14,63 +14,44 @@ use Rattle.engine.proofs.walk.Statement.{statement}
 use Rattle.engine.proofs.walk.Tie as tie
 
 -- the lengths fit, once that was tested,
-fit : (c : tie.Else1) →
-    let s = c.before.before.before.before.before.before in
-    fits_with most_devices s.args.records.now s.args.told.now ≡ true
-fit c = let g = c.before in sym g.fits2.ensures ∙ not-false g.fits2.result c.if1.false
+fit : (c : tie.Else-not-fits) →
+    fits_with most_devices c.args.records.now c.args.told.now ≡ true
+fit c = sym c.fits.ensures ∙ not-false c.fits.result c.if-not-fits.false-raw
 
 -- and header and records are sound
-sound_too : (c : tie.Else2) →
-    let s = c.before.before.before.before.before.before.before.before.before in
-    sound_records s.args.records.now ≡ true
-sound_too c = let v = c.before in sym v.sound.ensures ∙ not-false v.sound.result c.if2.false
+sound_too : (c : tie.Else-not-sound) →
+    sound_records c.args.records.now ≡ true
+sound_too c = sym c.sound.ensures ∙ not-false c.sound.result c.if-not-sound.false-raw
 
 -- a walk that is known to be another
 as_well : {v w : Walked} {r : WalkAnswer} {a t : List ℕ} → IsWalked v r a t → w ≡ v → IsWalked w r a t
 as_well h e = rw e h
 
-returns : tie.Need-returns
-returns c =
-    let i = c.before in
-    let g = i.before in
-    let s = g.before.before.before.before.before in
+returns-then-not-fits : tie.Need-returns-then-not-fits
+returns-then-not-fits c =
     as_well (record { answer = c.refused.ensures; records = refl; told = refl })
-    (walk_shape _ _ s.args.frame (sym g.fits2.ensures ∙ not-true g.fits2.result i.if1.true))
+    (walk_shape _ _ c.args.frame (sym c.fits.ensures ∙ not-true c.fits.result c.if-not-fits.true-raw))
 
 sound-requires : tie.Need-sound-requires
-sound-requires c κs = (fitting _ _ (fit c.before)).long
+sound-requires c κs = (fitting _ _ (fit c)).long
 
-returns-2 : tie.Need-returns-2
-returns-2 c =
-    let j = c.before in
-    let v = j.before in
-    let i = v.before.before in
-    let s = i.before.before.before.before.before.before in
-    as_well (record { answer = c.refused2.ensures; records = refl; told = refl })
-    (walk_unsound _ _ s.args.frame (fit i) (sym v.sound.ensures ∙ not-true v.sound.result j.if2.true))
+returns-then-not-sound : tie.Need-returns-then-not-sound
+returns-then-not-sound c =
+    as_well (record { answer = c.refused-then-not-sound.ensures; records = refl; told = refl })
+    (walk_unsound _ _ c.args.frame (fit c.before.before.before) (sym c.sound.ensures ∙ not-true c.sound.result c.if-not-sound.true-raw))
 
-returns-3 : tie.Need-returns-3
-returns-3 c =
-    let k = c.before in
-    let j = k.before in
-    let i = j.before.before.before in
-    let s = i.before.before.before.before.before.before in
-    as_well (record { answer = c.refused3.ensures; records = refl; told = refl })
-    (walk_bad _ _ s.args.frame (fit i) (sound_too j) k.if3.true)
+returns-then-frame-ge-FRAMES : tie.Need-returns-then-frame-ge-FRAMES
+returns-then-frame-ge-FRAMES c =
+    as_well (record { answer = c.refused-then-frame-ge-FRAMES.ensures; records = refl; told = refl })
+    (walk_bad _ _ c.args.frame (fit c.before.before.before.before) (sound_too c.before.before) c.if-frame-ge-FRAMES.true)
 
-past-all-requires : tie.Need-past-all-requires
-past-all-requires c κs =
-    let j = c.before.before.before in
-    (fitting _ _ (fit j.before.before.before), sound_too j)
+past_all-out-requires : tie.Need-past_all-out-requires
+past_all-out-requires c κs =
+    (fitting _ _ (fit c.before.before.before.before.before), sound_too c.before.before.before)
 
-returns-4 : tie.Need-returns-4
-returns-4 c =
-    let p = c.before.before.before.before in
-    let k = p.before.before.before in
-    let j = k.before in
-    let i = j.before.before.before in
-    let s = i.before.before.before.before.before.before in
-    as_well p.past_all.ensures (walk_done _ _ s.args.frame (fit i) (sound_too j) k.if3.false)
+returns : tie.Need-returns
+returns c =
+    as_well c.past_all-out.ensures (walk_done _ _ c.args.frame (fit c.before.before.before.before.before.before.before.before.before.before) (sound_too c.before.before.before.before.before.before.before.before) c.if-frame-ge-FRAMES.false)
 
 pub walk_spec : {M : Type 1} → statement M
 walk_spec =
@@ -80,18 +61,18 @@ walk_spec =
     (λ c κs. search rules)
     (λ c. search rules)
     (λ c. search rules)
-    returns
+    returns-then-not-fits
     sound-requires
     (λ c κs. search rules)
     (λ c. search rules)
     (λ c. search rules)
-    returns-2
+    returns-then-not-sound
     (λ c κs. search rules)
     (λ c. search rules)
     (λ c. search rules)
-    returns-3
+    returns-then-frame-ge-FRAMES
     (λ c. search rules)
-    past-all-requires
+    past_all-out-requires
     (λ c. search rules)
     (λ c. search rules)
-    returns-4)
+    returns)

@@ -12,44 +12,41 @@ use borrow.Author.Rules.{rules}
 use Rattle.engine_sound.proofs.sound.Statement.{statement}
 use Rattle.engine_sound.proofs.sound.Tie as tie
 
-abbrev invariant-loop : tie.invariant-loop
-invariant-loop records n right₀ i₀ right i = (right && left records n i) ≡ sound_records records
+abbrev invariant-loop-right : tie.invariant-loop-right
+invariant-loop-right records n right₀ i₀ right i = (right && left records n i) ≡ sound_records records
 
-abbrev decreases-loop : tie.decreases-loop
-decreases-loop records n right₀ i₀ right i = n - i
+abbrev decreases-loop-right : tie.decreases-loop-right
+decreases-loop-right records n right₀ i₀ right i = n - i
 
-loop-holds : tie.Need-loop-init invariant-loop decreases-loop
+loop-holds : tie.Need-loop-right-init invariant-loop-right decreases-loop-right
 unfolding sound_records
-loop-holds c = rw (c.zero-past.ensures, all_left)
+loop-holds c = rw (c.zero_past-right.ensures, all_left)
 
-there : (c : tie.In-loop invariant-loop decreases-loop) →
-    c.before.loop.i < count_in c.before.before.before.before.before.args.records.now
-there c = more c.before.before.before.before.before.args.records.now _ c.before.loop.i
-    c.before.loop.right c.loop-test.true
+there : (c : tie.In-loop-right invariant-loop-right decreases-loop-right) →
+    c.loop-right.i < count_in c.args.records.now
+there c = more c.args.records.now _ c.loop-right.i
+    c.loop-right.right c.loop-right-test.true
 
-loop-again : tie.Need-loop-preserved invariant-loop decreases-loop
+loop-again : tie.Need-loop-right-preserved invariant-loop-right decreases-loop-right
 loop-again c =
-    let t = c.before.before in
-    let l = t.before in
-    let a = l.before.before.before.before.args.records.now in
-    let place = record_at l.loop.i in
+    let a = c.args.records.now in
+    let place = record_at c.loop-right.i in
     let w : place + record_size - place ≡ record_size = omega arith in
-    turned a _ l.loop.i l.loop.right c.record_sound.result t.loop-test.true
-    (rw w at c.record_sound.ensures)
-    ∙ l.loop.invariant
+    turned a _ c.loop-right.i c.loop-right.right c.record_sound-right.result c.loop-right-test.true
+    (rw w at c.record_sound-right.ensures)
+    ∙ c.loop-right.invariant
 
-returns : tie.Need-returns invariant-loop decreases-loop
+returns : tie.Need-returns invariant-loop-right decreases-loop-right
 returns c =
-    let l = c.before in
-    let a = l.before.before.before.before.args.records.now in
-    sym (ended a _ l.loop.i l.loop.right c.loop-test.false) ∙ l.loop.invariant
+    let a = c.args.records.now in
+    sym (ended a _ c.loop-right.i c.loop-right.right c.loop-right-test.false) ∙ c.loop-right.invariant
 
 pub sound_spec : {M : Type 1} → statement M
 sound_spec =
     tie.close
     (tie.spec
-    invariant-loop
-    decreases-loop
+    invariant-loop-right
+    decreases-loop-right
     (λ c. search rules)
     (λ c. search rules)
     (λ c κs. search rules)

@@ -12,20 +12,19 @@ use Rattle.engine_zeros.proofs.Stretch.{joined}
 use Rattle.engine_sound.proofs.zeros_behind.Statement.{statement}
 use Rattle.engine_sound.proofs.zeros_behind.Tie as tie
 
-returns : tie.Need-returns
+returns-then-id-data : tie.Need-returns-then-id-data
 unfolding device_of
-returns c =
-    let i = c.before in
-    let b = i.before.before.before.before.args.rec.now in
-    let t : (eqb (get_or b 11 0) 0 && eqb (get_or b 12 0) 0) ≡ true = i.if1.true in
+returns-then-id-data c =
+    let b = c.args.rec.now in
+    let t : (eqb (get_or b 11 0) 0 && eqb (get_or b 12 0) 0) ≡ true = c.if-id-data.true in
     let x = eqb (get_or b 11 0) 0 in
     let y = eqb (get_or b 12 0) 0 in
     rw (eqb-true (get_or b 11 0) 0 (left x y t), eqb-true (get_or b 12 0) 0 (right x y t))
-    (c.zero-past.ensures ∙ joined b 24 8 32)
+    (c.zero_past.ensures ∙ joined b 24 8 32)
 
-returns-2 : tie.Need-returns-2
+returns : tie.Need-returns
 unfolding device_of
-returns-2 c = rw (c.before.zero-past2.ensures, c.zero-past3.ensures)
+returns c = rw (c.zero_past-2.ensures, c.zero_past-3.ensures)
 
 pub zeros_behind_spec : {M : Type 1} → statement M
 zeros_behind_spec =
@@ -34,7 +33,7 @@ zeros_behind_spec =
     (λ c. search rules)
     (λ c. search rules)
     (λ c κs. search rules)
-    returns
+    returns-then-id-data
     (λ c κs. search rules)
     (λ c κs. search rules)
-    returns-2)
+    returns)

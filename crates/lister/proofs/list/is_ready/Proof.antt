@@ -55,12 +55,12 @@ area_size-size-requires c κs = omega (arith, few c)
 -- the loop's bytes
 slice_bounds-judge-end : tie.Need-slice_bounds-judge-end
 slice_bounds-judge-end c =
-    sym (length-take-le _ _ (omega (arith, c.area_size-size.ensures, few c.before.before, (given c.before.before.before.before.before).area)))
+    sym (length-take-le _ _ (omega (arith, c.area_size-size.ensures, few c.before, (given c.before.before.before.before).area)))
 
 returns : tie.Need-returns
 returns c =
     rw (c.judge.ensures, c.area_size-size.ensures)
-    (sym (ready_is c.args.number c.args.area.now (length c.args.out.now) (room c.before.before.before.before.before.before)))
+    (sym (ready_is c.args.number c.args.area.now (length c.args.out.now) (room c.before.before.before.before.before)))
 
 pub is_ready_spec : {M : Type 1} → statement M
 is_ready_spec =

@@ -13,7 +13,7 @@ given s = is_ready s.args.number s.args.area.now (length s.args.out.now) s.requi
 
 bad_line-requires : tie.Need-bad_line-requires
 bad_line-requires c κs =
-    let g = given c.before.before.before.before.before.before.before in
+    let g = given c.before.before.before.before.before.before in
     (omega (arith, g.number), omega (arith, g.lent.buffer))
 
 returns-in_default : tie.Need-returns-in_default
@@ -24,28 +24,28 @@ returns-in_default c =
 
 bounds-area-0 : tie.Need-bounds-area-0
 bounds-area-0 c =
-    omega (arith, (given c.before.before.before.before.before.before.before.before).lent.area)
+    omega (arith, (given c.before.before.before.before.before.before).lent.area)
 
 cast_area_size : tie.Need-overflow_cast-area
 cast_area_size c = omega (arith, c.slice_known-3-1.given 0)
 
 area_size-size-requires : tie.Need-area_size-size-requires
-area_size-size-requires c κs = omega (arith, (given c.before.before.before.before.before.before.before.before).few)
+area_size-size-requires c κs = omega (arith, (given c.before.before.before.before.before.before).few)
 
 -- the loop's bytes
 part : tie.Need-slice_bounds-round-end
 part c =
-    let g = given c.before.before.before.before.before.before.before.before.before in
+    let g = given c.before.before.before.before.before.before.before in
     omega (arith, c.area_size-size.ensures, g.few, g.lent.area)
 
 round-written-requires : tie.Need-round-written-requires
 round-written-requires c κs =
-    let g = given c.before.before.before.before.before.before.before.before.before.before.before in
+    let g = given c.before.before.before.before.before.before.before.before.before in
     (rw c.area_size-size.ensures g.judged, omega (arith, g.lent.buffer))
 
 add_number : tie.Need-overflow_add-result-3
 add_number c =
-    omega (arith, (given c.before.before.before.before.before.before.before.before.before.before.before.before.before.before.before.before).number)
+    omega (arith, (given c.before.before.before.before.before.before.before.before.before.before.before.before.before.before).number)
 
 returns : tie.Need-returns
 returns c =

@@ -18,7 +18,7 @@ told : (s : tie.Start) → Devices s.args.line.now s.args.n
 told s = devices s.args.line.now s.args.n s.requires.0
 
 formed : (s : tie.Start) → Line1 s.args.line.now
-formed s = line1 s.args.line.now (told s).well-formed
+formed s = line1 s.args.line.now (told s).good
 
 sub_items_in : tie.Need-slice_bounds-items_in-count
 sub_items_in c = omega (arith, (formed c.before.before).long)
@@ -48,14 +48,14 @@ aggregate c = sym (length-take-le _ _ (part c.before))
 -- the items that are lent on
 some_items : tie.Need-slice_bounds-items-end
 some_items c =
-    omega (arith, (told c.before.before.before.before.before.before.before.before).few, c.items_in.auto.1.1.0)
+    omega (arith, (told c.before.before.before.before.before.before.before.before).few, c.items_in.auto.items)
 
 aggregate_2 : tie.Need-slice_bounds-set_up-end-3
 aggregate_2 c = sym (length-take-le _ _ (some_items c.before))
 
 returns : tie.Need-returns
 returns c =
-    set_up_told c.args.line.now c.items_in.new.1.1.0 (told c.before.before.before.before.before.before.before.before.before.before.before.before) c.area_size-size.ensures
+    set_up_told c.args.line.now c.items_in.new.items (told c.before.before.before.before.before.before.before.before.before.before.before.before) c.area_size-size.ensures
     (front (omega arith) c.items_in.ensures) c.set_up.ensures
 
 pub set_up_spec : {M : Type 1} → statement M

@@ -32,24 +32,24 @@ given : (c : tie.Else-not-is_roomy) →
 given c = lent _ _ (room c)
 
 put-requires : tie.Need-put-requires
-put-requires c κs = omega (arith, (given c.before.before.before).buffer)
+put-requires c κs = omega (arith, (given c.before.before.before.before).buffer)
 
 returns-then-input-gt-LONGEST : tie.Need-returns-then-input-gt-LONGEST
 returns-then-input-gt-LONGEST c =
-    rw (start_long c.args.input.now c.args.area.now (length c.args.out.now) (room c.before.before.before.before.before.before.before) c.if-input-gt-LONGEST.true)
+    rw (start_long c.args.input.now c.args.area.now (length c.args.out.now) (room c.before.before.before.before.before.before.before.before) c.if-input-gt-LONGEST.true)
     (did c.put.ensures c.last.ensures.0 c.last.ensures.1 refl)
 
 slice_bounds-first-end : tie.Need-slice_bounds-first-end
 slice_bounds-first-end c = sym (length-take-le _ _ c.find-end.ensures.1)
 
 first-requires : tie.Need-first-requires
-first-requires c κs = let g = given c.before.before.before.before.before in
+first-requires c κs = let g = given c.before.before.before.before in
     (omega (arith, g.area), omega (arith, g.buffer))
 
 returns : tie.Need-returns
 returns c =
     rw (
-      start_first c.args.input.now c.args.area.now (length c.args.out.now) (room c.before.before.before.before.before.before.before.before.before.before)
+      start_first c.args.input.now c.args.area.now (length c.args.out.now) (room c.before.before.before.before.before.before.before.before.before)
           c.if-input-gt-LONGEST.false,
       ← found c.args.input.now 0 c.find-end.result c.find-end.ensures.0,
       sub-zero c.find-end.result,

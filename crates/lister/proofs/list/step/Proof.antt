@@ -33,7 +33,7 @@ returns-then-input-at c =
 
 line-requires : tie.Need-line-requires
 line-requires c κs =
-    (here c.before.before.before.before.before, rw length-take (omega (arith, c.if-input-at.false, c.find-end.ensures.1, c.well-formed)))
+    (here c.before.before.before.before.before, rw length-take (omega (arith, c.if-input-at.false, c.find-end.ensures.1, c.well_formed)))
 
 returns : tie.Need-returns
 returns c =
