@@ -114,7 +114,9 @@ fn ready(rec: &mut [u8], message: Message, frame: u16) -> u16
     }
 }
 
-// What a simple device does with a frame that was read.
+// What a simple device does with a frame that was read. In place where it is called: a call here would be the deepest
+// of a walk, and the walk is held to a limit of stack.
+#[inline(always)]
 pub fn simple(rec: &mut [u8], message: Message, frame: u16) -> Passed
     requires { IsRecord rec.old × (message ≡ decoded frame) }
     ensures fact { IsRecord rec.new }
