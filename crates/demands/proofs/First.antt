@@ -358,7 +358,7 @@ call_held (walk f t) a = walk_held f t a
 pub demand_1 : Demand1
 demand_1 = record { by_table = λ c a. (call_held c a).refused; changes_nothing = λ c a. (call_held c a).unchanged }
 
--- ---- a set_up_lem that is not refused
+-- ---- a set-up that is not refused
 
 pub record SetsUp (a : List ℕ) (bytes : List Byte) (n : ℕ) : Type 0 where
   pub fits : items_fit most_devices n a (numbers bytes) ≡ true

@@ -186,7 +186,7 @@ never_stuck a i j h =
     (order-proofs.never_stuck papers (line_of a) i
     (λ e. h (sym (ap (λ (m : Loop). link m i) (loop_is a j)) ∙ e))))
 
--- ---- a set_up_lem leaves an idle line
+-- ---- a set-up leaves an idle line
 
 pub owed_after_set_up : OwedAfterSetUp
 owed_after_set_up items a set =

@@ -1,5 +1,5 @@
 -- Demand 3: an area without a refusal is that of a line, a history on it is one of the line, whose order does not
--- matter, and the line's history in turn can be made by calls on the area. A set_up_lem leaves the area of an idle line.
+-- matter, and the line's history in turn can be made by calls on the area. A set-up leaves the area of an idle line.
 use Prim.Native.Nat.{ℕ, zero, suc, ◌+◌, ◌*◌, ◌<◌}
 use mathlib.Core.Path.{◌≡◌, refl, sym, ap, ◌∙◌}
 use mathlib.Core.List.{List, [], ◌∷◌, map}
@@ -188,7 +188,7 @@ sum_same : (n : ℕ) {g h : ℕ → ℕ} → ((i : ℕ) → g i ≡ h i) → tol
 sum_same zero e = refl
 sum_same (suc n) e = rw (sum_same n e, e n)
 
--- ---- from a set_up_lem
+-- ---- from a set-up
 
 module _ (a : List ℕ) (items : List Byte) (set : due (set_up items) a ≡ 0) where
   abbrev n : ℕ

@@ -133,7 +133,7 @@ pub record Obeys (model : Call → List ℕ → After Answer) : Type 0 where
   -- asked for the hops owed it answers them, and no byte changes;
   pub tells_owed : (a : List ℕ) → Judged a →
       model (on_area owes) a ≡ after (owing (record { hops = hops_owed a; refusal = 0 })) a
-  -- a set_up_lem that is not refused leaves power-on devices and empty links;
+  -- a set-up that is not refused leaves power-on devices and empty links;
   pub sets_up : (items : List Byte) (a : List ℕ) → due (set_up items) a ≡ 0 →
       model (set_up items) a ≡ after (plain 0) (area_of (powered_on (devices_at (length a)) (numbers items)))
   -- a save writes the area's saved form, and no byte of the area changes; an opening that is not refused leaves what
@@ -192,7 +192,7 @@ pub record InAnyOrder (a : List ℕ) (ss : List Step) : Type 0 where
   -- Hops made are those owed at first, and frames put times devices.
   pub hops_made_lem : hops_made a ss ≡ hops_owed a + length (frames_put a ss) * count_in a
 
--- From a freshly set_up_lem loop no frame goes before those put: each goes right round before the next, and hops made are
+-- From a freshly set-up loop no frame goes before those put: each goes right round before the next, and hops made are
 -- frames times devices.
 pub record FreshInAnyOrder (a : List ℕ) (ss : List Step) : Type 0 where
   pub in_any_order : InAnyOrder a ss
@@ -202,7 +202,7 @@ pub record FreshInAnyOrder (a : List ℕ) (ss : List Step) : Type 0 where
 pub record Demand3 : Type 0 where
   -- From any area that has no refusal: steps in any order that leave all links empty
   pub from_any_area : (a : List ℕ) (ss : List Step) → Judged a → AllEmpty (area_left a ss) → InAnyOrder a ss
-  -- and so from a set_up_lem that is not refused, or from any opening that is not.
+  -- and so from a set-up that is not refused, or from any opening that is not.
   pub from_set_up : (a : List ℕ) (items : List Byte) (ss : List Step) → due (set_up items) a ≡ 0 →
       AllEmpty (area_left (pil (set_up items) a).area ss) → FreshInAnyOrder (pil (set_up items) a).area ss
   pub from_opening : (a : List ℕ) (s : List Byte) (ss : List Step) → due (opens s) a ≡ 0 →
@@ -211,7 +211,7 @@ pub record Demand3 : Type 0 where
   pub put_away : (a : List ℕ) (out lent : List Byte) → Judged a → length (numbers out) ≡ 30 + 86 * count_in a →
       length (numbers lent) ≡ length a → stepped (away out lent) a ≡ after (plain 0) a
 
--- A set_up_lem or an opening that is not refused leaves an area that has no refusal, so what follows, said of every such
+-- A set-up or an opening that is not refused leaves an area that has no refusal, so what follows, said of every such
 -- area, holds of what they leave.
 pub record StartsJudged : Type 0 where
   pub set_up_lem : (a : List ℕ) (items : List Byte) → due (set_up items) a ≡ 0 → Judged (pil (set_up items) a).area
@@ -266,7 +266,7 @@ abbrev pub OwedAfterRefusal : Type 0
 OwedAfterRefusal = (c : Call) (a : List ℕ) → (refusal_in (pil c a).answer ≡ 0 → ⊥) →
     hops_owed (pil c a).area ≡ hops_owed a
 
--- an accepted set_up_lem leaves none,
+-- an accepted set-up leaves none,
 abbrev pub OwedAfterSetUp : Type 0
 OwedAfterSetUp = (items : List Byte) (a : List ℕ) → due (set_up items) a ≡ 0 →
     hops_owed (pil (set_up items) a).area ≡ 0
@@ -285,7 +285,7 @@ abbrev pub OwedAtMost : Type 0
 OwedAtMost = (a : List ℕ) → Judged a → hops_owed a ≤ 2 * (count_in a * (count_in a + 1))
 
 -- Over any history, refused calls among it: the hops made, drains' included, and those owed then are those owed at
--- first and n for each frame put. A history has no set_up_lem in it, and no opening but of what was saved just before.
+-- first and n for each frame put. A history has no set-up in it, and no opening but of what was saved just before.
 abbrev pub OwedOver : Type 0
 OwedOver = (a : List ℕ) (ss : List Step) → Judged a →
     hops_made a ss + hops_owed (area_left a ss) ≡ hops_owed a + length (frames_put a ss) * count_in a

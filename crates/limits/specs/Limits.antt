@@ -30,7 +30,7 @@ pub record Agree (smaller larger : ℕ) : Type 1 where
   -- and so in what any call on the area answers and leaves, whatever it does with the loop in it;
   pub called : (A : Type 0) (deny : ℕ → A) (call : Loop → Outcome A) (a : List ℕ) → FewIn smaller a →
       call_with smaller deny call a ≡ call_with larger deny call a
-  -- in a set_up_lem,
+  -- in a set-up,
   pub set_up_lem : (a items : List ℕ) → FewItems smaller a items → set_up_with smaller a items ≡ set_up_with larger a items
   -- in a save,
   pub saving : (a out : List ℕ) → FewIn smaller a → save_with smaller a out ≡ save_with larger a out

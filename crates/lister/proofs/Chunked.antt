@@ -65,7 +65,7 @@ module _ (input area : List ℕ) (room : ℕ) (lent : area_room ≤ length area)
     abbrev lines : List (List ℕ)
     lines = lines_of (drop (suc (index_of newline input)) input)
 
-    -- line 1's set_up_lem, refused or not, and the lines behind it
+    -- line 1's set-up, refused or not, and the lines behind it
     abbrev Begun : Type 0
     Begun = Complete (set_up_does (area_size n) line (set_up_in line area) area) (set_up_listed (set_up line) lines)
 

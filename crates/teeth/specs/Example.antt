@@ -79,7 +79,7 @@ same (x ∷ xs) [] = false
 same (x ∷ xs) (y ∷ ys) = eqb x y && same xs ys
 
 pub record Example : Type 0 where
-  -- demand 3's premises: the set_up_lem is accepted, and all links are empty at the end
+  -- demand 3's premises: the set-up is accepted, and all links are empty at the end
   pub set_up_lem : due (set_up (item ++ item)) blank ≡ 0
   pub all_empty : AllEmpty (area_left fresh mixed)
   -- after its first three calls three hops are owed, and at the end none
