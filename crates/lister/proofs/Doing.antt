@@ -188,7 +188,7 @@ pub found : (input : List ℕ) (at e : ℕ) → e ≡ at + index_of newline (sli
     take (e - at) (drop at input) ≡ line_at at input
 found input at e h =
     let whole : take (length input - at) (drop at input) ≡ drop at input =
-        rw (← length-drop at input) (take-length (drop at input)) in
+    rw (← length-drop at input) (take-length (drop at input)) in
     let f : e ≡ at + index_of newline (drop at input) = rw whole at h in
     rw (f, add-sub_cancel_left at (index_of newline (drop at input)))
 

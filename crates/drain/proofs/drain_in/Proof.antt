@@ -46,15 +46,14 @@ devices_in-n-requires : tie.Need-devices_in-n-requires invariant-search decrease
 devices_in-n-requires c κs = c.requires
 
 turns_holds : tie.Need-turns-init invariant-search decreases-search invariant-turns decreases-turns
-turns_holds c =
-    (
-      first_turn c.args.area.now c.args.budget _ (λ i. (c.slice_known-1.given i).fits) c.requires
-          c.devices_in-n.ensures.0,
-      (omega arith, refl),
-      refl,
-      refl,
-      refl,
-    )
+turns_holds c = (
+  first_turn c.args.area.now c.args.budget _ (λ i. (c.slice_known-1.given i).fits) c.requires
+      c.devices_in-n.ensures.0,
+  (omega arith, refl),
+  refl,
+  refl,
+  refl,
+)
 
 search_holds : tie.Need-search-init invariant-search decreases-search invariant-turns decreases-turns
 search_holds c = c.turns.invariant.1
@@ -65,12 +64,11 @@ can_hop-requires c κs =
     record { judged = t.holds.judged; there = omega (arith, t.count, c.search.invariant.0, c.if-i-eq0.false) }
 
 search_again : tie.Need-search-preserved invariant-search decreases-search invariant-turns decreases-turns
-search_again c =
-    (
-      omega arith,
-      c.search.invariant.1 ∙ highest_next c.search.i (loop_of c.turns.area) (omega arith)
-          (sym c.can_hop.ensures ∙ c.if-can_hop.false),
-    )
+search_again c = (
+  omega arith,
+  c.search.invariant.1 ∙ highest_next c.search.i (loop_of c.turns.area) (omega arith)
+      (sym c.can_hop.ensures ∙ c.if-can_hop.false),
+)
 
 hop_at-answer-requires : tie.Need-hop_at-answer-requires invariant-search decreases-search invariant-turns decreases-turns
 hop_at-answer-requires c κs =

@@ -34,13 +34,12 @@ near c =
     omega (arith, c.loop-i-test.true, c.loop-i.invariant.0, c.requires.0.few)
 
 loop-holds : tie.Need-loop-i-init invariant-loop-i decreases-loop-i
-loop-holds c =
-    (
-      refl,
-      c.read-message.ensures,
-      starts c.args.records.now c.args.told.now c.args.frame (λ i. (c.slice_known-3-1.given i).fits)
-          c.requires.0 c.requires.1,
-    )
+loop-holds c = (
+  refl,
+  c.read-message.ensures,
+  starts c.args.records.now c.args.told.now c.args.frame (λ i. (c.slice_known-3-1.given i).fits)
+      c.requires.0 c.requires.1,
+)
 
 take-passed-requires : tie.Need-take-passed-requires invariant-loop-i decreases-loop-i
 take-passed-requires c κs =

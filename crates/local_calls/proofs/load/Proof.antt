@@ -22,13 +22,12 @@ record_start-at-requires c κs =
     (sym c.find.ensures ∙ c.in-At.is)
 
 load-requires : tie.Need-load-requires
-load-requires c κs =
-    (
-      its_record (λ d. loads d c.args.bytes.now c.args.end) c.args.area.now c.args.device _
-          (sym c.find.ensures ∙ c.in-At.is) (λ j. (c.slice_known-1.given j).fits)
-          c.record_start-at.result c.record_start-at.ensures,
-      omega (arith, c.if-end.false),
-    )
+load-requires c κs = (
+  its_record (λ d. loads d c.args.bytes.now c.args.end) c.args.area.now c.args.device _
+      (sym c.find.ensures ∙ c.in-At.is) (λ j. (c.slice_known-1.given j).fits)
+      c.record_start-at.result c.record_start-at.ensures,
+  omega (arith, c.if-end.false),
+)
 
 returns-in-Refused : tie.Need-returns-in-Refused
 returns-in-Refused c =

@@ -13,11 +13,10 @@ area : (c : tie.After-slice_known-1) → Area (size (loop_of c.args.area.now)) c
 area c = area_held c.args.area.now (λ i. (c.slice_known-1.given i).fits) c.requires.0
 
 hops-at-requires : tie.Need-hops-at-requires
-hops-at-requires c κs =
-    (
-      rw c.put.ensures.1 (judged (put_held c.args.frame (area c.before.before.before.before.before.before.before))),
-      omega (arith, c.requires.1),
-    )
+hops-at-requires c κs = (
+  rw c.put.ensures.1 (judged (put_held c.args.frame (area c.before.before.before.before.before.before.before))),
+  omega (arith, c.requires.1),
+)
 
 frame_line-requires : tie.Need-frame_line-requires
 frame_line-requires c κs =
