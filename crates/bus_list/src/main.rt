@@ -7,55 +7,55 @@ ghost use Rattle.bus_script.specs.Listing.{text_room};
 
 use bus::import::byte_without;
 use bus_script::TEXT_ROOM;
-use libc::{STDERR_FILENO, STDOUT_FILENO};
 use lister::LONGEST;
+use std::io;
 
 // One byte past the longest row is enough to know that an input is too long.
 const ROOM: usize = LONGEST + 1;
 
-fn say(words: &[u8]) {
-    io::write_all(STDERR_FILENO, words);
+fn say(err: &impl Print, words: &[u8]) -> io::Result<()> {
+    print::text(err, words)
 }
 
-fn decimal(number: usize) {
-    io::print_decimal(STDERR_FILENO, number as u64);
+fn decimal(err: &impl Print, number: usize) -> io::Result<()> {
+    print::decimal(err, number as u64)
 }
 
 // Two digits, as a listing has a byte.
-fn hex(byte: u8) {
-    io::print_hex(STDERR_FILENO, byte as u64, 2);
+fn hex(err: &impl Print, byte: u8) -> io::Result<()> {
+    print::hex_byte(err, byte)
 }
 
 // Why a row has no frames.
-fn explain(row: &[u8]) {
+fn explain(err: &impl Print, row: &[u8]) -> io::Result<()> {
     if LONGEST < row.len() {
-        say(b"the row is longer than ");
-        decimal(LONGEST);
-        say(b" bytes\n");
-        return;
+        say(err, b"the row is longer than ")?;
+        decimal(err, LONGEST)?;
+        return say(err, b" bytes\n");
     }
     let place = byte_without(row);
     if place < row.len() {
-        say(b"byte ");
-        decimal(place);
-        say(b" is ");
-        hex(row[place]);
-        say(b", which has no command on the loop\n");
+        say(err, b"byte ")?;
+        decimal(err, place)?;
+        say(err, b" is ")?;
+        hex(err, row[place])?;
+        say(err, b", which has no command on the loop\n")?;
     }
+    Ok(())
 }
 
 // The lines of a row go out.
-fn print(row: &[u8], out: &mut [u8])
+fn print(rt: &impl Print, row: &[u8], out: &mut [u8]) -> io::Result<()>
     requires { text_room ≤ length out.old }
 {
     let written = bus_script::list(row, out);
-    io::write_all(STDOUT_FILENO, &out[..written]);
+    rt.write_all(&out[..written])
 }
 
-fn main() {
+fn main(rt: HostRuntime) -> io::Result<()> {
     let mut row = [0u8; ROOM];
-    let n = io::read_full(libc::STDIN_FILENO, &mut row);
+    let n = input::fill(&mut rt.stdin(), &mut row)?;
     let mut out = [0u8; TEXT_ROOM];
-    print(&row[..n], &mut out);
-    explain(&row[..n]);
+    print(&rt, &row[..n], &mut out)?;
+    explain(&rt.stderr(), &row[..n])
 }

@@ -2,40 +2,43 @@
 #![tactic(auto)]
 
 use print::{decimal, text};
+use std::io;
 
-fn main() {
-    text(b"#ifndef PIL_KINDS_H\n");
-    text(b"#define PIL_KINDS_H\n");
-    text(b"\n");
-    text(b"#include <stdint.h>\n");
-    text(b"\n");
-    text(b"/* The kind number of every frame, 0 for a frame of no kind. */\n");
-    text(b"static const uint8_t pil_kinds[");
-    decimal(frame::FRAMES as u64);
-    text(b"] = {\n");
-    entries();
-    text(b"};\n");
-    text(b"\n");
-    text(b"#endif\n");
+fn main(rt: HostRuntime) -> io::Result<()> {
+    text(&rt, b"#ifndef PIL_KINDS_H\n")?;
+    text(&rt, b"#define PIL_KINDS_H\n")?;
+    text(&rt, b"\n")?;
+    text(&rt, b"#include <stdint.h>\n")?;
+    text(&rt, b"\n")?;
+    text(
+        &rt,
+        b"/* The kind number of every frame, 0 for a frame of no kind. */\n",
+    )?;
+    text(&rt, b"static const uint8_t pil_kinds[")?;
+    decimal(&rt, frame::FRAMES as u64)?;
+    text(&rt, b"] = {\n")?;
+    entries(&rt)?;
+    text(&rt, b"};\n")?;
+    text(&rt, b"\n")?;
+    text(&rt, b"#endif\n")
 }
 
-fn entries() {
-    let mut at: u64 = 0;
-    while at < frame::FRAMES as u64 {
-        entry(at);
-        at += 1;
+fn entries(rt: &impl Print) -> io::Result<()> {
+    for at in 0..frame::FRAMES as u64 {
+        entry(rt, at)?;
     }
+    Ok(())
 }
 
 // An entry: sixteen stand in a line.
-fn entry(at: u64) {
+fn entry(rt: &impl Print, at: u64) -> io::Result<()> {
     if at % 16 == 0 {
-        text(b"    ");
+        text(rt, b"    ")?;
     }
-    decimal(published::kind(at) as u64);
+    decimal(rt, published::kind(at) as u64)?;
     if at % 16 == 15 {
-        text(b",\n");
+        text(rt, b",\n")
     } else {
-        text(b", ");
+        text(rt, b", ")
     }
 }

@@ -1,36 +1,35 @@
 // Lists each script that an argument names, under a line with its name.
 #![tactic(auto)]
 
-use libc::STDOUT_FILENO;
+use print::text;
+use std::rt::Files;
+use std::{env, fs, io};
+
+// More than the longest script, so that one that is too long is seen to be.
+const ROOM: usize = 65536;
 
 // A script's file, whole.
-fn list(name: &[u8]) {
-    let file = os::open_read(name);
-    if file < 0 {
-        os::fail(name);
-        return;
-    }
-    let mut script = io::large_buffer();
-    let n = io::read_full(file, &mut script);
-    libc::close(file);
-    list_out::print(&script[..n]);
+fn list<R: Files + Print + Eprint>(rt: &R, err: &impl Print, name: &str) -> io::Result<()> {
+    let mut file = match fs::open(rt, name) {
+        Ok(file) => file,
+        Err(e) => return eprintln!(rt; "{name}: {e}"),
+    };
+    let mut script = [0u8; ROOM];
+    let n = input::fill(&mut file, &mut script)?;
+    list_out::print(rt, err, &script[..n])
 }
 
-// Argument i and its script.
-fn show(i: usize) {
-    let mut name = io::buffer();
-    let n = os::arg(i, &mut name);
-    io::write_all(STDOUT_FILENO, b"-- ");
-    io::write_all(STDOUT_FILENO, &name[..n]);
-    io::write_all(STDOUT_FILENO, b"\n");
-    list(&name[..n]);
+// An argument and its script.
+fn show<R: Files + Print + Eprint>(rt: &R, err: &impl Print, name: &str) -> io::Result<()> {
+    text(rt, b"-- ")?;
+    text(rt, name.as_bytes())?;
+    text(rt, b"\n")?;
+    list(rt, err, name)
 }
 
-fn main() {
-    let count = os::arg_count();
-    let mut i = 1;
-    while i < count {
-        show(i);
-        i += 1;
+fn main(rt: HostRuntime) -> io::Result<()> {
+    for name in env::args(&rt)?.skip(1) {
+        show(&rt, &rt.stderr(), name.as_str())?;
     }
+    Ok(())
 }

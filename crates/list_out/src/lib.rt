@@ -4,56 +4,65 @@
 
 ghost use Rattle.std.specs.Prelude.{◌≤◌, length};
 
-use libc::STDOUT_FILENO;
 use lister::{AREA_ROOM, Chunk, LONGEST, Next, TEXT_ROOM};
+use std::io;
 
 // The first bytes of the buffer go out.
-fn write(out: &[u8], written: usize) -> bool
+fn write(rt: &impl Print, out: &[u8], written: usize) -> io::Result<()>
     requires { written ≤ length out.now }
 {
-    io::write_all(STDOUT_FILENO, &out[..written])
+    rt.write_all(&out[..written])
 }
 
 // A chunk of a later line that is the last and has a text says `bad`.
-fn explain(input: &[u8], at: usize, number: usize, chunk: Chunk) {
+fn explain(
+    err: &impl Print,
+    input: &[u8],
+    at: usize,
+    number: usize,
+    chunk: Chunk,
+) -> io::Result<()> {
     let next = chunk.next;
     if let Next::End = next {
         if chunk.written > 0 {
-            wrong::later(input, at, number);
+            return wrong::later(err, input, at, number);
         }
     }
+    Ok(())
 }
 
 // The chunks behind the first: no more than the input has bytes.
-fn rest(input: &[u8], first: Next, area: &mut [u8], out: &mut [u8]) {
+fn rest(
+    rt: &impl Print,
+    err: &impl Print,
+    input: &[u8],
+    first: Next,
+    area: &mut [u8],
+    out: &mut [u8],
+) -> io::Result<()> {
     let mut next = first;
-    let mut turns = input.len();
-    while turns > 0 {
+    for _ in 0..input.len() {
         let Next::Line(at, number) = next else {
-            return;
+            return Ok(());
         };
         let chunk = lister::step(input, at, number, area, out);
-        if !write(out, chunk.written) {
-            return;
-        }
-        explain(input, at, number, chunk);
+        write(rt, out, chunk.written)?;
+        explain(err, input, at, number, chunk)?;
         next = chunk.next;
-        turns -= 1;
     }
+    Ok(())
 }
 
-pub fn print(input: &[u8]) {
+// `rt` is standard output, and `err` standard error.
+pub fn print(rt: &impl Print, err: &impl Print, input: &[u8]) -> io::Result<()> {
     let mut area = [0u8; AREA_ROOM];
     let mut out = [0u8; TEXT_ROOM];
     let chunk = lister::start(input, &mut area, &mut out);
-    if !write(&out, chunk.written) {
-        return;
-    }
+    write(rt, &out, chunk.written)?;
     // The first chunk has no text but `bad` or `long`.
     if chunk.written > 0 {
-        wrong::first(input, LONGEST);
-        return;
+        return wrong::first(err, input, LONGEST);
     }
     let next = chunk.next;
-    rest(input, next, &mut area, &mut out);
+    rest(rt, err, input, next, &mut area, &mut out)
 }

@@ -6,33 +6,40 @@ ghost use Rattle.std.specs.Prelude.{◌<◌};
 ghost use Rattle.frame.specs.Messages.{frames};
 
 use print::{decimal, hex, text};
+use std::io;
 
-fn main() {
-    text(b"message: first and last code; decodings before, at and after them; frames\n");
-    messages();
-    text(b"kind of every frame, by the decoder and by the table\n");
-    frames();
-    refusals();
+fn main(rt: HostRuntime) -> io::Result<()> {
+    text(
+        &rt,
+        b"message: first and last code; decodings before, at and after them; frames\n",
+    )?;
+    messages(&rt)?;
+    text(
+        &rt,
+        b"kind of every frame, by the decoder and by the table\n",
+    )?;
+    frames(&rt)?;
+    refusals(&rt)
 }
 
-fn refusals() {
-    text(b"decoder\n");
-    decoded(0x543);
-    decoded(0x7ff);
-    decoded(0x800);
-    decoded(0x10000);
-    decoded(0xffffffffffffffff);
-    text(b"encoder\n");
-    encoded(0, 0, 0);
-    encoded(42, 0xff, 1);
-    encoded(42, 0xff, 2);
-    encoded(42, 0x100, 0);
-    encoded(12, 0x1e, 0);
-    encoded(12, 0x1e, 1);
-    encoded(43, 0, 0);
-    encoded(1, 0xffffffffffffffff, 0);
-    encoded(1, 0, 0xffffffffffffffff);
-    encoded(0xffffffffffffffff, 0, 0);
+fn refusals(rt: &impl Print) -> io::Result<()> {
+    text(rt, b"decoder\n")?;
+    decoded(rt, 0x543)?;
+    decoded(rt, 0x7ff)?;
+    decoded(rt, 0x800)?;
+    decoded(rt, 0x10000)?;
+    decoded(rt, 0xffffffffffffffff)?;
+    text(rt, b"encoder\n")?;
+    encoded(rt, 0, 0, 0)?;
+    encoded(rt, 42, 0xff, 1)?;
+    encoded(rt, 42, 0xff, 2)?;
+    encoded(rt, 42, 0x100, 0)?;
+    encoded(rt, 12, 0x1e, 0)?;
+    encoded(rt, 12, 0x1e, 1)?;
+    encoded(rt, 43, 0, 0)?;
+    encoded(rt, 1, 0xffffffffffffffff, 0)?;
+    encoded(rt, 1, 0, 0xffffffffffffffff)?;
+    encoded(rt, 0xffffffffffffffff, 0, 0)
 }
 
 // The messages in the table's order, 16 bytes each: mnemonic, control bits, data bits, with letters for the free bits.
@@ -80,58 +87,57 @@ const ROWS: [u8; 672] = *b"\
     UNL 100 00111111\
     UNT 100 01011111";
 
-fn messages() {
-    let mut at = 0;
-    while at + 16 <= ROWS.len() {
-        message(&ROWS[at..at + 16]);
-        at += 16;
+fn messages(rt: &impl Print) -> io::Result<()> {
+    for row in ROWS.chunks_exact(16) {
+        message(rt, row)?;
     }
+    Ok(())
 }
 
 // A message's line.
-fn message(row: &[u8]) {
+fn message(rt: &impl Print, row: &[u8]) -> io::Result<()> {
     let first = code(row, 0);
     let last = last_code(row);
-    text(row);
-    text(b": ");
-    hex(first);
-    text(b" ");
-    hex(last);
-    decodings(first, last);
-    frames_of(last);
+    text(rt, row)?;
+    text(rt, b": ")?;
+    hex(rt, first)?;
+    text(rt, b" ")?;
+    hex(rt, last)?;
+    decodings(rt, first, last)?;
+    frames_of(rt, last)
 }
 
 // The decodings before, at and after a message's codes.
-fn decodings(first: u64, last: u64)
+fn decodings(rt: &impl Print, first: u64, last: u64) -> io::Result<()>
     requires { last < frames }
 {
-    text(b";");
-    neighbour(first);
-    parts_at(first);
-    parts_at(last);
-    parts_at(last + 1);
+    text(rt, b";")?;
+    neighbour(rt, first)?;
+    parts_at(rt, first)?;
+    parts_at(rt, last)?;
+    parts_at(rt, last + 1)
 }
 
 // The frames at a kind's first and last offset and C1, at an offset too many and at a C1 too many.
-fn frames_of(last: u64) {
+fn frames_of(rt: &impl Print, last: u64) -> io::Result<()> {
     let answer = coding::decode(last);
     let kind = answer.kind as u64;
     let most = answer.offset as u64;
     let c1 = answer.c1 as u64;
-    text(b"; frames");
-    frame_at(kind, 0, 0);
-    frame_at(kind, most, c1);
-    frame_at(kind, most + 1, c1);
-    frame_at(kind, 0, c1 + 1);
-    text(b"\n");
+    text(rt, b"; frames")?;
+    frame_at(rt, kind, 0, 0)?;
+    frame_at(rt, kind, most, c1)?;
+    frame_at(rt, kind, most + 1, c1)?;
+    frame_at(rt, kind, 0, c1 + 1)?;
+    text(rt, b"\n")
 }
 
 // The decoding before a code.
-fn neighbour(first: u64) {
+fn neighbour(rt: &impl Print, first: u64) -> io::Result<()> {
     if first == 0 {
-        text(b" none");
+        text(rt, b" none")
     } else {
-        parts_at(first - 1);
+        parts_at(rt, first - 1)
     }
 }
 
@@ -159,10 +165,8 @@ fn code(row: &[u8], free: u64) -> u64
     ensures { result < frames }
 {
     let mut bits: u64 = 0;
-    let mut i = 3;
-    while i < row.len() {
+    for i in 3..row.len() {
         bits = and_digit(bits, row[i], free);
-        i += 1;
     }
     bits
 }
@@ -180,78 +184,77 @@ fn and_digit(bits: u64, digit: u8, free: u64) -> u64
     }
 }
 
-fn frames() {
+fn frames(rt: &impl Print) -> io::Result<()> {
     let mut start: u64 = 0;
-    let mut at: u64 = 0;
-    while at < frame::FRAMES as u64 {
-        start = run(start, at);
-        at += 1;
+    for at in 0..frame::FRAMES as u64 {
+        start = run(rt, start, at)?;
     }
+    Ok(())
 }
 
 // The line of a run of frames of one kind, where it ends at `at`; the answer is where the next frame's run starts.
-fn run(start: u64, at: u64) -> u64
+fn run(rt: &impl Print, start: u64, at: u64) -> io::Result<u64>
     requires { at < frames }
 {
     let here = coding::decode(start);
     let next = coding::decode(at + 1);
     if here.kind == next.kind {
-        return start;
+        return Ok(start);
     }
-    hex(start);
-    text(b" ");
-    hex(at);
-    text(b" ");
-    decimal(here.kind as u64);
-    text(b" ");
-    decimal(published::kind(start) as u64);
-    text(b"\n");
-    at + 1
+    hex(rt, start)?;
+    text(rt, b" ")?;
+    hex(rt, at)?;
+    text(rt, b" ")?;
+    decimal(rt, here.kind as u64)?;
+    text(rt, b" ")?;
+    decimal(rt, published::kind(start) as u64)?;
+    text(rt, b"\n")?;
+    Ok(at + 1)
 }
 
-fn decoded(number: u64) {
-    hex(number);
-    parts_at(number);
-    text(b"\n");
+fn decoded(rt: &impl Print, number: u64) -> io::Result<()> {
+    hex(rt, number)?;
+    parts_at(rt, number)?;
+    text(rt, b"\n")
 }
 
-fn encoded(kind: u64, offset: u64, c1: u64) {
-    decimal(kind);
-    text(b" ");
-    hex(offset);
-    text(b" ");
-    decimal(c1);
-    frame_at(kind, offset, c1);
-    text(b"\n");
+fn encoded(rt: &impl Print, kind: u64, offset: u64, c1: u64) -> io::Result<()> {
+    decimal(rt, kind)?;
+    text(rt, b" ")?;
+    hex(rt, offset)?;
+    text(rt, b" ")?;
+    decimal(rt, c1)?;
+    frame_at(rt, kind, offset, c1)?;
+    text(rt, b"\n")
 }
 
 // What the decoder answers: a kind, an offset and a C1, or a refusal.
-fn parts_at(number: u64) {
+fn parts_at(rt: &impl Print, number: u64) -> io::Result<()> {
     let answer = coding::decode(number);
     if answer.refusal == 0 {
-        text(b" ");
-        decimal(answer.kind as u64);
-        text(b".");
-        decimal(answer.offset as u64);
-        text(b".");
-        decimal(answer.c1 as u64);
+        text(rt, b" ")?;
+        decimal(rt, answer.kind as u64)?;
+        text(rt, b".")?;
+        decimal(rt, answer.offset as u64)?;
+        text(rt, b".")?;
+        decimal(rt, answer.c1 as u64)
     } else {
-        refused(answer.refusal);
+        refused(rt, answer.refusal)
     }
 }
 
 // What the encoder answers: a frame or a refusal.
-fn frame_at(kind: u64, offset: u64, c1: u64) {
+fn frame_at(rt: &impl Print, kind: u64, offset: u64, c1: u64) -> io::Result<()> {
     let answer = coding::encode(kind, offset, c1);
     if answer.refusal == 0 {
-        text(b" ");
-        hex(answer.frame as u64);
+        text(rt, b" ")?;
+        hex(rt, answer.frame as u64)
     } else {
-        refused(answer.refusal);
+        refused(rt, answer.refusal)
     }
 }
 
-fn refused(refusal: u8) {
-    text(b" refusal ");
-    decimal(refusal as u64);
+fn refused(rt: &impl Print, refusal: u8) -> io::Result<()> {
+    text(rt, b" refusal ")?;
+    decimal(rt, refusal as u64)
 }

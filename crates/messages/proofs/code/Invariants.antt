@@ -1,0 +1,7 @@
+-- The bits of a part of a row are a frame's too.
+use Rattle.std.proofs.Common.{◌<◌}
+use Rattle.frame.specs.Messages.{frames}
+use Rattle.messages.proofs.code.Given as goal
+
+abbrev pub invariant-loop-i : goal.invariant-loop-i
+invariant-loop-i l = l.bits < frames
