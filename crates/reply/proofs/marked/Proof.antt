@@ -25,8 +25,8 @@ pub marked_spec : {M : Type 1} → statement M
 marked_spec =
     tie.close
     (tie.spec
-    (λ c d m e q. asks _ m _ c.if-state-eq-ASKING.true (omega (arith, c.if-c1-eq1.true)))
+    (λ c d m e q. asks _ m _ c.if-state-eq-ASKING.true (omega arith))
     (λ c. search rules)
     (λ c d m e q. asks _ m _ c.if-state-eq-ASKING.true
-    (omega (arith, c.if-c1-eq1.false, c.requires.1)))
+    (omega arith))
     (λ c d m e q. quiet _ m _ c.if-state-eq-ASKING.false e))
