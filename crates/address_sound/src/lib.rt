@@ -2,18 +2,17 @@
 // then those of its variant.
 #![tactic(auto)]
 
-ghost use Rattle.std.specs.Prelude.{◌≡◌, length};
-ghost use Rattle.record.specs.Record.{record_size, device_of};
+ghost use Rattle.std.specs.Prelude.{◌≡◌};
+ghost use Rattle.record.specs.Record.{device_of};
 ghost use Rattle.record.specs.Sound.{unconfigured_fixed, configured_able, simple_right, unconfigured_second};
 ghost use Rattle.record.specs.Sound.{configured_both};
 ghost use Rattle.record.specs.Sound.{extended_right, address_right};
 
 use device::Device;
 use record::read::{has, has_further};
-use record::{ADDRESS, CONFIGURED, FIXED, FIXED_SECOND, SECOND};
+use record::{ADDRESS, CONFIGURED, FIXED, FIXED_SECOND, SECOND, SIZE};
 
-fn unconfigured_fixed(rec: &[u8]) -> bool
-    requires { length rec.now ≡ record_size }
+fn unconfigured_fixed(rec: &[u8; SIZE]) -> bool
     ensures { result ≡ unconfigured_fixed (device_of rec.now) }
 {
     if rec[CONFIGURED] == 0 {
@@ -22,8 +21,7 @@ fn unconfigured_fixed(rec: &[u8]) -> bool
     true
 }
 
-fn configured_able(rec: &[u8]) -> bool
-    requires { length rec.now ≡ record_size }
+fn configured_able(rec: &[u8; SIZE]) -> bool
     ensures { result ≡ configured_able (device_of rec.now) }
 {
     if rec[CONFIGURED] == 1 {
@@ -32,16 +30,14 @@ fn configured_able(rec: &[u8]) -> bool
     true
 }
 
-fn simple_right(rec: &[u8]) -> bool
-    requires { length rec.now ≡ record_size }
+fn simple_right(rec: &[u8; SIZE]) -> bool
     ensures { result ≡ simple_right (device_of rec.now) }
 {
     configured_able(rec)
         & ((rec[CONFIGURED] <= 1) & ((rec[FIXED_SECOND] == 0) & (rec[SECOND] == 0)))
 }
 
-fn unconfigured_second(rec: &[u8]) -> bool
-    requires { length rec.now ≡ record_size }
+fn unconfigured_second(rec: &[u8; SIZE]) -> bool
     ensures { result ≡ unconfigured_second (device_of rec.now) }
 {
     if rec[CONFIGURED] == 0 {
@@ -50,8 +46,7 @@ fn unconfigured_second(rec: &[u8]) -> bool
     true
 }
 
-fn configured_both(rec: &[u8]) -> bool
-    requires { length rec.now ≡ record_size }
+fn configured_both(rec: &[u8; SIZE]) -> bool
     ensures { result ≡ configured_both (device_of rec.now) }
 {
     if rec[CONFIGURED] == 1 {
@@ -61,8 +56,7 @@ fn configured_both(rec: &[u8]) -> bool
     true
 }
 
-fn extended_right(rec: &[u8]) -> bool
-    requires { length rec.now ≡ record_size }
+fn extended_right(rec: &[u8; SIZE]) -> bool
     ensures { result ≡ extended_right (device_of rec.now) }
 {
     !has(rec, Device::AUTO_ADDRESS)
@@ -71,8 +65,7 @@ fn extended_right(rec: &[u8]) -> bool
                 & (unconfigured_second(rec) & configured_both(rec))))
 }
 
-pub fn address_right(rec: &[u8]) -> bool
-    requires { length rec.now ≡ record_size }
+pub fn address_right(rec: &[u8; SIZE]) -> bool
     ensures { result ≡ address_right (device_of rec.now) }
 {
     if unconfigured_fixed(rec) {

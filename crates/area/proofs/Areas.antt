@@ -121,6 +121,9 @@ sized a h =
     let e : size (loop_of a) ≡ count_in a = simp (length-map, length_parts) in
     record { count = sym e; few = rw e s.few; long = rw e s.long }
 
+pub few_devices : (a : List ℕ) → judge_of a ≡ 0 → size (loop_of a) ≤ most_devices
+few_devices a h = (sized a h).few
+
 -- its contents
 record Tests (a : List ℕ) : Type 0 where
   head : zeros (bytes_from 1 7 a) ≡ true

@@ -1,10 +1,11 @@
 -- The parts of an area without a refusal as they are lent to the code, and the area as it is given back: that of a
 -- changed loop.
-use mathlib.Core.Path.{◌≡◌, sym, ap, ◌∙◌}
+use mathlib.Core.Path.{◌≡◌, refl, sym, ap, ◌∙◌}
 use mathlib.Core.List.{List, ◌∷◌, [], ◌++◌, tail}
-use Prim.Native.Nat.{ℕ, ◌+◌, ◌<◌}
+use Prim.Native.Nat.{ℕ, ◌<◌, ◌+◌, ◌-◌}
 use native.Mathlib.Omega.{arith}
-use lib.ListN.{length}
+use native.Mathlib.Nat.{add-sub_cancel_left}
+use lib.ListN.{length, take, drop}
 use Rattle.frame.specs.Messages.{frames}
 use Rattle.device.specs.declared.Device.{Device}
 use Rattle.record.specs.Record.{record_size, device_of, record_of}
@@ -86,3 +87,10 @@ module _ (a : List ℕ) (small : Bytes a) (i from : ℕ) (h : HasDevice a i)
             (device_put (loop_of a) i d h.there),
       )
       (holds_of (set_device i d (loop_of a)) (device_kept (loop_of a) (loop_good a small h.judged) i d g))
+
+  -- the same of the area as its bytes stand
+  pub device_put_back : (d : Device) (x : List ℕ) → Good d →
+      x ≡ take from a ++ (record_of d ++ drop record_size (drop from a)) → Holds x (set_device i d (loop_of a))
+  device_put_back d x g e =
+      let w : from + record_size - from ≡ record_size = add-sub_cancel_left from record_size in
+      rw e (rw w at (device_held d (record_of d) g refl))

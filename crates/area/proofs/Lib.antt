@@ -2,7 +2,8 @@
 -- it back leaves.
 pub mod Parts
 pub mod Each
-pub mod Rest
+pub mod Chunks
+pub mod Made
 pub mod Links
 pub mod Areas
 pub mod Held

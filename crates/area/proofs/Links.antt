@@ -9,6 +9,8 @@ use lib.Dec.{eqb, ltb}
 use lib.ListN.{length, get_or, take, set, length-take, length-append, get_or-eq_default}
 use lib.Seq.{get_or-take}
 use borrow.Author.Tests.{eqb-true, leb-true, ltb-true, ltb-false, le-leb, lt-ltb, eq-eqb}
+use Rattle.std.specs.Prelude.{Some, None}
+use Rattle.std.specs.Bool.{then_some}
 use Rattle.frame.specs.Messages.{frames}
 use Rattle.device.specs.PowerOn.{bytes_from}
 use Rattle.device.proofs.Bytes.{bytes_all}
@@ -19,8 +21,6 @@ use Rattle.record.proofs.Bytes.{small_bytes}
 use Rattle.area.specs.Sizes.{depth, link_size}
 use Rattle.area.specs.Link.{slots_of, frames_of, bytes_of, link_of, sound_slot, sound_link, Frames, IsLink}
 use Rattle.area.specs.Lookup.{oldest_of, room_of}
-use Rattle.area.specs.declared.Room.{Room}
-use Rattle.area.specs.declared.Oldest.{Oldest}
 use Rattle.area.proofs.Each.{each_more, each_tail}
 
 -- ---- what is looked up
@@ -33,32 +33,40 @@ pub count_full : (b : List ℕ) → depth ≤ get_or b 0 0 → length (frames_of
 unfolding frames_of
 count_full b h = simp length-take (omega arith)
 
-pub oldest_none : (b : List ℕ) → get_or b 0 0 ≡ 0 → oldest_of (frames_of b) ≡ Oldest.Empty
+-- room is told by the count
+pub room_told : (b : List ℕ) → then_some (ltb (get_or b 0 0) depth) (get_or b 0 0) ≡ room_of (frames_of b)
+room_told b = go (ltb (get_or b 0 0) depth) refl
+  where
+    go : (t : Bool) → ltb (get_or b 0 0) depth ≡ t → then_some t (get_or b 0 0) ≡ room_of (frames_of b)
+    go true e = let n = count_is b (omega (arith, ltb-true _ _ e)) in rw (n, e)
+    go false e = rw (count_full b (ltb-false _ _ e))
+
+pub oldest_none : (b : List ℕ) → get_or b 0 0 ≡ 0 → oldest_of (frames_of b) ≡ None
 unfolding frames_of
 oldest_none b h = rw h
 
-pub oldest_some : (b : List ℕ) → (get_or b 0 0 ≡ 0 → ⊥) → oldest_of (frames_of b) ≡ Oldest.Frame (word 2 b)
+pub oldest_some : (b : List ℕ) → (get_or b 0 0 ≡ 0 → ⊥) → oldest_of (frames_of b) ≡ Some (word 2 b)
 unfolding frames_of
 oldest_some b h = go (get_or b 0 0) h
   where
-    go : (n : ℕ) → (n ≡ 0 → ⊥) → oldest_of (take n (slots_of b)) ≡ Oldest.Frame (word 2 b)
+    go : (n : ℕ) → (n ≡ 0 → ⊥) → oldest_of (take n (slots_of b)) ≡ Some (word 2 b)
     go zero k = absurd (k refl)
     go (suc n) k = refl
 
 -- a link with an oldest frame has one, and that is a frame
-pub some_frame : (fs : List ℕ) (f : ℕ) → oldest_of fs ≡ Oldest.Frame f → 0 < length fs
+pub some_frame : (fs : List ℕ) (f : ℕ) → oldest_of fs ≡ Some f → 0 < length fs
 some_frame [] f h = let z : ◌≡◌ {A = ℕ} 0 1 = cc in omega arith
 some_frame (x ∷ fs) f h = omega arith
 
-pub oldest_is : (fs : List ℕ) (f : ℕ) → oldest_of fs ≡ Oldest.Frame f → f ≡ get_or fs 0 0
+pub oldest_is : (fs : List ℕ) (f : ℕ) → oldest_of fs ≡ Some f → f ≡ get_or fs 0 0
 oldest_is [] f h = let z : ◌≡◌ {A = ℕ} 0 1 = cc in let y : ⊥ = omega arith in absurd y
 oldest_is (x ∷ fs) f h = cc
 
 -- a link with room has it behind its frames
-pub room_is : (fs : List ℕ) (n : ℕ) → room_of fs ≡ Room.Behind n → (length fs < depth) × (n ≡ length fs)
+pub room_is : (fs : List ℕ) (n : ℕ) → room_of fs ≡ Some n → (length fs < depth) × (n ≡ length fs)
 room_is fs n h = go (ltb (length fs) depth) refl h
   where
-    go : (t : Bool) → ltb (length fs) depth ≡ t → cond t (Room.Behind (length fs)) Room.Full ≡ Room.Behind n →
+    go : (t : Bool) → ltb (length fs) depth ≡ t → cond t (Some (length fs)) None ≡ Some n →
         (length fs < depth) × (n ≡ length fs)
     go true e s = (ltb-true _ _ e, cc)
     go false e s = let z : ◌≡◌ {A = ℕ} 0 1 = cc in let y : ⊥ = omega arith in absurd y
@@ -260,7 +268,7 @@ module _ (b : List ℕ) (small : Bytes b) (h : IsLink b) where
   pub shifted_is : 0 < length (frames_of b) → shifted b ≡ link_of (tail (frames_of b))
   shifted_is some = ap shifted (sym back) ∙ shifted_link (frames_of b) few_in some
 
-  pub longer_is : (n f : ℕ) → room_of (frames_of b) ≡ Room.Behind n →
+  pub longer_is : (n f : ℕ) → room_of (frames_of b) ≡ Some n →
       longer b (get_or b 0 0) n f ≡ link_of (frames_of b ++ (f ∷ []))
   longer_is n f s =
       let e = room_is (frames_of b) n s in

@@ -2,7 +2,7 @@
 -- spliced in.
 use mathlib.Core.Path.{◌≡◌, refl, ap, ◌∙◌}
 use mathlib.Core.List.{List, [], ◌∷◌, ◌++◌, append_assoc, map}
-use mathlib.Core.Bool.{Bool, true}
+use mathlib.Core.Bool.{Bool, true, and-true}
 use Prim.Native.Nat.{ℕ, zero, suc, ◌+◌, ◌-◌, ◌*◌, ◌≤◌, ◌<◌}
 use native.Mathlib.Nat.{mul-suc, mul-zero, add_comm, add-sub_cancel_left, le_of_suc-le-suc, not-suc-le-zero}
 use native.Mathlib.Omega.{arith}
@@ -42,6 +42,11 @@ get_d_parts w zero b i h = absurd (not-suc-le-zero h)
 get_d_parts w (suc n) b zero h = rw mul-zero
 get_d_parts w (suc n) b (suc i) h = get_d_parts w n (drop w b) i (le_of_suc-le-suc h)
     ∙ rw (drop-drop, mul-suc, add_comm w (w * i))
+
+-- one part alone
+pub alone : (p : List ℕ → Bool) (w : ℕ) (b : List ℕ) → length b ≡ w → all p (parts w 1 b) ≡ p b
+unfolding all parts
+alone p w b h = rw (take_all w b (omega arith)) (and-true (p b))
 
 -- parts put together are what was cut
 pub join_parts : (w n : ℕ) (b : List ℕ) → join (parts w n b) ≡ take (w * n) b

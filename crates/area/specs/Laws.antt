@@ -1,10 +1,9 @@
 -- The laws of areas and loops, as statements: an area without a refusal and a sound loop say the same, the area is
 -- bytes, and a link's room is used again. Proofs: proofs/Laws.antt.
-use Rattle.std.specs.Prelude.{ℕ, ◌≡◌, List, ◌∷◌, length}
+use Rattle.std.specs.Prelude.{ℕ, ◌≡◌, List, ◌∷◌, length, Some}
 use Rattle.record.specs.Fits.{Bytes}
 use Rattle.area.specs.Loop.{Loop, loop_of, area_of, judge_of, link, SoundLoop}
 use Rattle.area.specs.Lookup.{room_of, remove}
-use Rattle.area.specs.declared.Room.{Room}
 
 -- The area of the loop read from an area without a refusal is that area, byte for byte
 abbrev pub AreaBack : Type 0
@@ -29,4 +28,4 @@ AreaBytes = (l : Loop) → SoundLoop l → Bytes (area_of l)
 -- Room freed in a link is used again: after its oldest frame is removed, the link has room behind the others
 abbrev pub RoomAgain : Type 0
 RoomAgain = (l : Loop) (j f : ℕ) (fs : List ℕ) → SoundLoop l → link l j ≡ f ∷ fs →
-    room_of (link (remove j l) j) ≡ Room.Behind (length fs)
+    room_of (link (remove j l) j) ≡ Some (length fs)

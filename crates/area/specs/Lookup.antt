@@ -1,26 +1,23 @@
--- What is looked up in a loop, each answered by an enum that says where there is nothing, and the changes made to it.
-use Rattle.std.specs.Prelude.{ℕ, suc, cond, length, set, replicate, ltb}
+-- What is looked up in a loop, `None` where there is nothing, and the changes made to it.
+use Rattle.std.specs.Prelude.{ℕ, suc, cond, length, set, replicate, ltb, Option, Some, None}
 use mathlib.Core.List.{List, [], ◌∷◌, ◌++◌, tail}
 use Rattle.device.specs.declared.Device.{Device}
 use Rattle.record.specs.Record.{device_of}
 use Rattle.area.specs.Sizes.{depth}
 use Rattle.area.specs.Loop.{Loop, size, link}
-use Rattle.area.specs.declared.Oldest.{Oldest}
-use Rattle.area.specs.declared.Room.{Room}
-use Rattle.area.specs.declared.Place.{Place}
 
 -- a link's oldest frame
-abbrev pub oldest_of : List ℕ → Oldest
-oldest_of [] = Oldest.Empty
-oldest_of (f ∷ fs) = Oldest.Frame f
+abbrev pub oldest_of : List ℕ → Option ℕ
+oldest_of [] = None
+oldest_of (f ∷ fs) = Some f
 
 -- a link's room for one more frame: behind how many it goes
-abbrev pub room_of : List ℕ → Room
-room_of fs = cond (ltb (length fs) depth) (Room.Behind (length fs)) Room.Full
+abbrev pub room_of : List ℕ → Option ℕ
+room_of fs = cond (ltb (length fs) depth) (Some (length fs)) None
 
 -- a device's place in a loop
-abbrev pub place_of : Loop → ℕ → Place
-place_of l i = cond (ltb i (size l)) (Place.At i) Place.NoDevice
+abbrev pub place_of : Loop → ℕ → Option ℕ
+place_of l i = cond (ltb i (size l)) (Some i) None
 
 -- device i becomes another, link j other frames
 abbrev pub set_device : ℕ → Device → Loop → Loop

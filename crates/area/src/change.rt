@@ -1,14 +1,14 @@
 // The changes made to an area without a refusal; each leaves the whole area that of the changed loop.
-ghost use Rattle.std.specs.Prelude.{◌≡◌, ◌≤◌, ◌<◌, length};
+ghost use Rattle.std.specs.Prelude.{◌≡◌, ◌≤◌, ◌<◌, length, Some};
 ghost use Rattle.frame.specs.Messages.{frames};
 ghost use Rattle.record.specs.Fits.{Good};
 ghost use Rattle.area.specs.Sizes.{most_devices, area_size};
 ghost use Rattle.area.specs.Loop.{loop_of, link, Holds, HasDevice, HasLink};
 ghost use Rattle.area.specs.Lookup.{room_of, add, remove, set_device, blank_of};
 
+use crate::LINK_SIZE;
 use crate::link::{append, drop_oldest};
 use crate::lookup::{link_start, record_start};
-use crate::{LINK_SIZE, Room};
 use device::Device;
 
 // Link j loses its oldest frame.
@@ -22,7 +22,7 @@ pub fn remove_at(area: &mut [u8], j: usize)
 
 // Link j gets a frame, behind as many as `room_at` said.
 pub fn add_at(area: &mut [u8], j: usize, behind: usize, frame: u16)
-    requires { HasLink area.old j × (room_of (link (loop_of area.old) j) ≡ Room.Behind behind) ×
+    requires { HasLink area.old j × (room_of (link (loop_of area.old) j) ≡ Some behind) ×
         (frame < frames) }
     ensures { Holds area.new (add j frame (loop_of area.old)) }
 {
@@ -36,7 +36,8 @@ pub fn set_device(area: &mut [u8], i: usize, d: Device)
     ensures { Holds area.new (set_device i d (loop_of area.old)) }
 {
     let at = record_start(area, i);
-    record_write::write(&mut area[at..at + record::SIZE], d);
+    let (_, rest) = area.split_at_mut(at);
+    record_write::write(rest.first_chunk_mut().unwrap(), d);
 }
 
 // An area of n devices that are all zero, with empty links.

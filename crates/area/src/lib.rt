@@ -4,6 +4,7 @@
 pub mod change;
 mod link;
 pub mod lookup;
+pub mod runs;
 
 ghost use Rattle.std.specs.Prelude.{◌≡◌, ◌<◌};
 ghost use Rattle.area.specs.Sizes.{most_devices, is_count, area_size};
@@ -29,32 +30,6 @@ pub const MOST_DEVICES: usize = 31;
 pub const LARGEST: usize = HEADER_SIZE
     + record::SIZE * MOST_DEVICES
     + LINK_SIZE * (MOST_DEVICES + 1);
-
-// Refusals of an area as such.
-pub const SHAPE: u8 = 1;
-
-pub const UNSOUND: u8 = 2;
-
-// A link's oldest frame.
-#[derive(Clone, Copy)]
-pub enum Oldest {
-    Frame(u16),
-    Empty,
-}
-
-// A link's room for one more frame: behind how many it goes.
-#[derive(Clone, Copy)]
-pub enum Room {
-    Behind(usize),
-    Full,
-}
-
-// A device's place in the loop.
-#[derive(Clone, Copy)]
-pub enum Place {
-    At(usize),
-    NoDevice,
-}
 
 // Whether a loop can have n devices.
 pub fn is_count(n: usize) -> bool

@@ -1,33 +1,32 @@
 // A link's ten bytes: its oldest frame, its room, a frame less and a frame more.
-ghost use Rattle.std.specs.Prelude.{◌≡◌, ◌<◌, length};
+ghost use Rattle.std.specs.Prelude.{◌≡◌, ◌<◌, length, Some};
 ghost use mathlib.Core.List.{◌∷◌, [], tail, ◌++◌};
 ghost use Rattle.area.specs.Sizes.{link_size};
 ghost use Rattle.area.specs.Link.{frames_of, link_of, IsLink};
 ghost use Rattle.area.specs.Lookup.{oldest_of, room_of};
 
-use crate::{DEPTH, Oldest, Room};
+use crate::DEPTH;
 
-pub fn oldest_in(link: &[u8]) -> Oldest
+#[tactic(auto, using(crate::proofs::Links::oldest_none, crate::proofs::Links::oldest_some))]
+pub fn oldest_in(link: &[u8]) -> Option<u16>
     requires { length link.now ≡ link_size }
     ensures { result ≡ oldest_of (frames_of link.now) }
 {
     if link[0] == 0 {
-        Oldest::Empty
+        None
     } else {
-        Oldest::Frame(record::word_at(link, 2))
+        Some(record::word_at(link, 2))
     }
 }
 
-pub fn room_in(link: &[u8]) -> Room
+// Behind how many frames one more goes, if there is room for it.
+#[tactic(auto, using(crate::proofs::Links::room_told))]
+pub fn room_in(link: &[u8]) -> Option<usize>
     requires { length link.now ≡ link_size }
     ensures { result ≡ room_of (frames_of link.now) }
 {
     let n = link[0] as usize;
-    if n < DEPTH {
-        Room::Behind(n)
-    } else {
-        Room::Full
-    }
+    (n < DEPTH).then_some(n)
 }
 
 // A link without its oldest frame.
@@ -52,7 +51,7 @@ pub fn drop_oldest(link: &mut [u8])
 
 // A link with one frame more, behind as many as `room_in` said.
 pub fn append(link: &mut [u8], behind: usize, frame: u16)
-    requires { IsLink link.old × (room_of (frames_of link.old) ≡ Room.Behind behind) }
+    requires { IsLink link.old × (room_of (frames_of link.old) ≡ Some behind) }
     ensures { link.new ≡ link_of (frames_of link.old ++ (frame ∷ [])) }
 {
     let at = 2 + 2 * behind;

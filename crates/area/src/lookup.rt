@@ -6,7 +6,7 @@ ghost use Rattle.area.specs.Loop.{judge_of, loop_of, size, link, HasDevice, HasL
 ghost use Rattle.area.specs.Lookup.{oldest_of, room_of, place_of};
 
 use crate::link::{oldest_in, room_in};
-use crate::{HEADER_SIZE, LINK_SIZE, Oldest, Place, Room};
+use crate::{HEADER_SIZE, LINK_SIZE};
 
 pub fn devices_in(area: &[u8]) -> usize
     requires { judge_of area.now ≡ 0 }
@@ -15,16 +15,12 @@ pub fn devices_in(area: &[u8]) -> usize
     area[0] as usize
 }
 
-pub fn place_of(area: &[u8], device: u64) -> Place
+pub fn place_of(area: &[u8], device: u64) -> Option<usize>
     requires { judge_of area.now ≡ 0 }
     ensures { result ≡ place_of (loop_of area.now) device }
 {
     let i = device as usize;
-    if i < devices_in(area) {
-        Place::At(i)
-    } else {
-        Place::NoDevice
-    }
+    (i < devices_in(area)).then_some(i)
 }
 
 // Where record i starts.
@@ -43,7 +39,7 @@ pub fn link_start(area: &[u8], j: usize) -> usize
     HEADER_SIZE + record::SIZE * devices_in(area) + LINK_SIZE * j
 }
 
-pub fn oldest_at(area: &[u8], j: usize) -> Oldest
+pub fn oldest_at(area: &[u8], j: usize) -> Option<u16>
     requires { HasLink area.now j }
     ensures { result ≡ oldest_of (link (loop_of area.now) j) }
 {
@@ -51,7 +47,7 @@ pub fn oldest_at(area: &[u8], j: usize) -> Oldest
     oldest_in(&area[at..at + LINK_SIZE])
 }
 
-pub fn room_at(area: &[u8], j: usize) -> Room
+pub fn room_at(area: &[u8], j: usize) -> Option<usize>
     requires { HasLink area.now j }
     ensures { result ≡ room_of (link (loop_of area.now) j) }
 {

@@ -9,43 +9,26 @@ ghost use Rattle.area.specs.Loop.{sound};
 ghost use Rattle.saved.specs.Saved.{head_size, without_edition, saved_device_size, saved_link_size, body, contents};
 ghost use Rattle.saved.specs.Inner.{sound_device_in, sound_link_in, SaveOf};
 
+use area::runs::{all_parts, make_parts};
 use area::{HEADER_SIZE, LINK_SIZE};
 use judge::contents::{links_sound, records_sound, rest_zero};
 use saved::{DEVICE_RECORD, HEAD_SIZE, HEADER_RECORD, LINK_RECORD, fill, links_at};
 
-// Whether the bodies of so many devices' records are sound. Each is judged as a row of one, by the pass over areas, so
-// that the compiler keeps its tests there.
-fn device_bodies_sound(records: &[u8], n: usize) -> bool
-    requires { saved_device_size * n ≤ length records.now }
-    ensures { result ≡ all sound_device_in (parts saved_device_size n records.now) }
+// Whether the body of a device's record is sound. It is judged as a row of one, by the pass over areas, so that the
+// compiler keeps its tests there.
+fn device_body_sound(record: &[u8]) -> bool
+    requires { length record.now ≡ saved_device_size }
+    ensures { result ≡ sound_device_in record.now }
 {
-    let mut rest = &records[..];
-    let mut left = n;
-    while left > 0 {
-        if !records_sound(&rest[HEAD_SIZE..DEVICE_RECORD], 1) {
-            return false;
-        }
-        rest = &rest[DEVICE_RECORD..];
-        left -= 1;
-    }
-    true
+    records_sound(&record[HEAD_SIZE..], 1)
 }
 
-// Whether those of so many links' are.
-fn link_bodies_sound(records: &[u8], n: usize) -> bool
-    requires { saved_link_size * n ≤ length records.now }
-    ensures { result ≡ all sound_link_in (parts saved_link_size n records.now) }
+// Whether that of a link's is.
+fn link_body_sound(record: &[u8]) -> bool
+    requires { length record.now ≡ saved_link_size }
+    ensures { result ≡ sound_link_in record.now }
 {
-    let mut rest = &records[..];
-    let mut left = n;
-    while left > 0 {
-        if !links_sound(&rest[HEAD_SIZE..LINK_RECORD], 1) {
-            return false;
-        }
-        rest = &rest[LINK_RECORD..];
-        left -= 1;
-    }
-    true
+    links_sound(&record[HEAD_SIZE..], 1)
 }
 
 // Whether the area that a save of n devices holds is sound. Byte 1 of its header is the edition, which the form judges.
@@ -55,8 +38,8 @@ pub fn bodies_sound(save: &[u8], n: usize) -> bool
 {
     let links = links_at(n);
     rest_zero(&save[HEAD_SIZE..])
-        & (device_bodies_sound(&save[HEADER_RECORD..], n)
-            & link_bodies_sound(&save[links..], n + 1))
+        & (all_parts(&save[HEADER_RECORD..], DEVICE_RECORD, n, device_body_sound)
+            & all_parts(&save[links..], LINK_RECORD, n + 1, link_body_sound))
 }
 
 // The bodies of so many records, each of one size.
@@ -65,17 +48,9 @@ fn read_run(records: &[u8], to: &mut [u8], size: usize, count: usize)
         (size ≤ record_size) }
     ensures { to.new ≡ join (map body (parts (head_size + size) count records.now)) }
 {
-    let mut rest = &records[..];
-    let mut at = 0;
-    let mut left = count;
-    while left > 0 {
-        let next = HEAD_SIZE + size;
-        let end = at + size;
-        fill(&rest[HEAD_SIZE..next], &mut to[at..end]);
-        rest = &rest[next..];
-        at = end;
-        left -= 1;
-    }
+    make_parts(records, HEAD_SIZE + size, to, size, count, |record, body| {
+        fill(&record[HEAD_SIZE..], body)
+    });
 }
 
 // A header's body, with the area's own byte 1.

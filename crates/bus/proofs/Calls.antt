@@ -1,16 +1,16 @@
 -- How a call ends, by whether its row matches and has room; and so the two calls one after the other: what the first
 -- wrote is a row that matches for the second.
 use Prim.Native.Nat.{ℕ, ◌*◌, ◌/◌, ◌≤◌, ◌<◌}
-use mathlib.Core.Path.{◌≡◌, refl, sym, ap, ◌∙◌}
+use mathlib.Core.Path.{◌≡◌, refl, sym, ◌∙◌}
 use mathlib.Core.List.{List, ◌++◌}
 use mathlib.Core.Bool.{Bool, true, false, not, cond}
 use native.Mathlib.Omega.{arith}
 use lib.Dec.{ltb}
-use lib.ListN.{length, take, drop}
+use lib.ListN.{length, drop}
 use lib.Seq.{take_at}
 use borrow.Author.Tests.{ltb-false, lt-ltb, le-ltb}
 use Rattle.bus.specs.Rows.{imported, have_commands, byte_without, exported, are_pairs, frame_without}
-use Rattle.bus.specs.Calls.{Written, written, match_answer, full, no_match, writes, import_of, export_of}
+use Rattle.bus.specs.Calls.{written, match_answer, full, no_match, writes}
 use Rattle.bus.specs.Laws.{MatchUnique, ImportExport, ExportImport}
 use Rattle.bus.proofs.Rows.{lengths, import_export, export_import}
 

@@ -8,7 +8,7 @@ use native.Mathlib.Omega.{arith}
 use native.Mathlib.Decide.{dec_lt}
 use lib.Dec.{eqb, ltb, leb}
 use borrow.Author.Tests.{eqb-true, ltb-true, leb-true, lt-ltb, le-ltb, le-leb, lt-leb, not-true}
-use Rattle.frame.specs.Messages.{frames, kinds, Row, messages, within, lookup, kind_at, first_in, codes_in, first_of}
+use Rattle.frame.specs.Messages.{kinds, Row, messages, within, lookup, kind_at, first_in, codes_in, first_of}
 use Rattle.frame.specs.Messages.{codes_of, number_of}
 use Rattle.frame.specs.Decoding.{message, has_c1, offset_in, c1_in, decoded, data_in}
 use Rattle.frame.specs.declared.Kind.TheVariants as kind

@@ -1,8 +1,8 @@
 -- Rows place by place, as the loops of the code go through them: what is found or written so far, and the rest.
 use Prim.Native.Nat.{ℕ, zero, suc, zero-le, ◌+◌, ◌-◌, ◌*◌, ◌%◌, ◌/◌, ◌≤◌, ◌<◌}
 use mathlib.Core.Path.{◌≡◌, refl, sym, ap, ◌∙◌}
-use mathlib.Core.List.{List, [], ◌∷◌, ◌++◌, append_assoc, append-nil}
-use mathlib.Core.Bool.{Bool, true, false, cond, ◌&&◌, ◌||◌}
+use mathlib.Core.List.{List, [], ◌∷◌, ◌++◌}
+use mathlib.Core.Bool.{Bool, true, false, cond, not, ◌&&◌, ◌||◌}
 use native.Mathlib.Nat.{add-zero, zero-add, not-suc-le-zero, le_of_suc-le-suc}
 use native.Mathlib.Numerals.{add-one}
 use native.Mathlib.Omega.{arith}
@@ -10,6 +10,11 @@ use lib.Dec.{eqb, ltb}
 use lib.ListN.{length, get_or, drop, set, drop_of_length-le}
 use lib.Seq.{drop-cons, take-length, paste, paste-zero, paste-suc, length-paste}
 use borrow.Author.Tests.{ltb-true, ltb-false, eqb-true, eqb-false, ne_eqb, eq-eqb}
+use Rattle.std.specs.Prelude.{Option, None, Some, unwrap_or}
+use Rattle.std.specs.List.{position, position_or_len}
+use Rattle.std.proofs.lemmas.Bool.Decides.{nat_tests}
+use Rattle.std.proofs.lemmas.List.Recursion.{is_position_or_len}
+use Rattle.std.proofs.lemmas.List.Sums.{prefix_len-le-length}
 use Rattle.frame.specs.Messages.{messages, first_in, first_of}
 use Rattle.frame.specs.Decoding.{data_in}
 use Rattle.bus.specs.Codes.{has_command, command_of, has_byte, byte_of, rfc}
@@ -22,20 +27,23 @@ use Rattle.bus.proofs.Calls.{unmatched, no_room, done}
 
 -- ---- the first place without a match
 
-module _ (row : List ℕ) (i : ℕ) where
-  pub byte_stops : i < length row → has_command (get_or row i 0) ≡ false →
-      byte_without row ≡ i + byte_without (drop i row) → byte_without row ≡ i
-  unfolding byte_without
-  byte_stops p m h = h ∙ rw (drop-cons row i 0 p, m) (add-zero i)
+turned : (t : Bool) (n : ℕ) → cond t (suc n) 0 ≡ cond (not t) 0 (1 + n)
+turned true n = omega arith
+turned false n = refl
 
-  pub byte_goes : i < length row → has_command (get_or row i 0) ≡ true →
-      byte_without row ≡ i + byte_without (drop i row) → byte_without row ≡ i + 1 + byte_without (drop (i + 1) row)
-  unfolding byte_without
-  byte_goes p m h = h ∙ rw (drop-cons row i 0 p, m, add-one) (omega arith)
+byte_first : (row : List ℕ) → byte_without row ≡ position_or_len (λ b. not (has_command b)) row
+unfolding byte_without
+byte_first row = is_position_or_len byte_without (λ b. not (has_command b)) refl
+    (λ b bs. turned (has_command b) (byte_without bs)) row
 
-  pub byte_ends : length row ≤ i → byte_without row ≡ i + byte_without (drop i row) → byte_without row ≡ i
-  unfolding byte_without
-  byte_ends p h = h ∙ rw (drop_of_length-le row {i = i} p) (add-zero i)
+-- the row's length is the place where there is none
+or_length : (n i : ℕ) → i ≤ n → unwrap_or (cond (ltb i n) (Some i) None) n ≡ i
+or_length n i h = grind (arith, nat_tests)
+
+pub byte_found : (row : List ℕ) {r : Option ℕ} → r ≡ position (λ b. not (has_command b)) row →
+    unwrap_or r (length row) ≡ byte_without row
+byte_found row e =
+    rw (e, byte_first row) (or_length _ _ (prefix_len-le-length (λ b. not (not (has_command b))) row))
 
 no_byte : (f : ℕ) (rest : List ℕ) → has_byte f ≡ false → frame_without (f ∷ rest) ≡ 0
 unfolding frame_without

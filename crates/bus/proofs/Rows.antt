@@ -1,6 +1,6 @@
 -- The laws of rows, each by induction on the row: byte by byte, and pair by pair.
-use Prim.Native.Nat.{ℕ, zero, suc, zero-le, ◌+◌, ◌*◌, ◌%◌, ◌/◌, ◌≤◌, ◌<◌}
-use mathlib.Core.Path.{◌≡◌, refl, sym, ap, ◌∙◌}
+use Prim.Native.Nat.{ℕ, zero, suc, zero-le, ◌*◌, ◌%◌, ◌/◌, ◌≤◌, ◌<◌}
+use mathlib.Core.Path.{◌≡◌, refl, ◌∙◌}
 use mathlib.Core.List.{List, [], ◌∷◌}
 use mathlib.Core.Bool.{Bool, true, false, cond, ◌&&◌}
 use native.Mathlib.Nat.{not-suc-le-zero, le_of_suc-le-suc}
@@ -9,7 +9,7 @@ use lib.Dec.{eqb, eqb-suc-suc}
 use lib.ListN.{length, get_or}
 use borrow.Author.Tests.{eqb-true, eq-eqb, ne_eqb}
 use Rattle.frame.proofs.Laws.{both_true}
-use Rattle.bus.specs.Codes.{has_command, command_of, has_byte, byte_of, rfc}
+use Rattle.bus.specs.Codes.{has_command, has_byte, rfc}
 use Rattle.bus.specs.Rows.{imported, have_commands, byte_without, exported, are_pairs, frame_without}
 use Rattle.bus.specs.Laws.{Needs, FirstByte, stands, FirstFrame}
 use Rattle.bus.proofs.Codes.{equal_codes_lem}

@@ -11,21 +11,19 @@ fn frame_without(frames: &[u16]) -> usize
     ensures { result ≡ frame_without frames.now }
 {
     let pairs = frames.len() / 2;
-    let mut k = 0;
-    while k < pairs {
+    for k in 0..pairs {
         if !has_byte(frames[2 * k]) {
             return 2 * k;
         }
         if frames[2 * k + 1] != RFC {
             return 2 * k + 1;
         }
-        k += 1;
     }
     if frames.len() % 2 == 0 {
-        return 2 * k;
+        return frames.len();
     }
-    if !has_byte(frames[2 * k]) {
-        return 2 * k;
+    if !has_byte(frames[2 * pairs]) {
+        return 2 * pairs;
     }
     frames.len()
 }
@@ -48,10 +46,8 @@ pub fn export(frames: &[u16], row: &mut [u8]) -> MatchAnswer
             refusal: FULL,
         };
     }
-    let mut i = 0;
-    while i < need {
+    for i in 0..need {
         row[i] = data_bits(frames[2 * i]);
-        i += 1;
     }
     MatchAnswer {
         place: 0,

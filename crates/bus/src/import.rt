@@ -10,14 +10,9 @@ use frame::COMMANDS;
 pub fn byte_without(row: &[u8]) -> usize
     ensures { result ≡ byte_without row.now }
 {
-    let mut i = 0;
-    while i < row.len() {
-        if !has_command(row[i]) {
-            return i;
-        }
-        i += 1;
-    }
-    i
+    row.iter()
+        .position(|b| !has_command(*b))
+        .unwrap_or(row.len())
 }
 
 // Each byte's command, followed by RFC.
@@ -37,12 +32,9 @@ pub fn import(row: &[u8], frames: &mut [u16]) -> MatchAnswer
             refusal: FULL,
         };
     }
-    let n = row.len();
-    let mut i = 0;
-    while i < n {
-        frames[2 * i] = COMMANDS + row[i] as u16;
+    for (i, b) in row.iter().enumerate() {
+        frames[2 * i] = COMMANDS + *b as u16;
         frames[2 * i + 1] = RFC;
-        i += 1;
     }
     MatchAnswer {
         place: 0,

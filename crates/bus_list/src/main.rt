@@ -8,40 +8,25 @@ ghost use Rattle.bus_script.specs.Listing.{text_room};
 use bus::import::byte_without;
 use bus_script::TEXT_ROOM;
 use lister::LONGEST;
+use print::hex_byte;
 use std::io;
 
 // One byte past the longest row is enough to know that an input is too long.
 const ROOM: usize = LONGEST + 1;
 
-fn say(err: &impl Print, words: &[u8]) -> io::Result<()> {
-    print::text(err, words)
-}
-
-fn decimal(err: &impl Print, number: usize) -> io::Result<()> {
-    print::decimal(err, number as u64)
-}
-
-// Two digits, as a listing has a byte.
-fn hex(err: &impl Print, byte: u8) -> io::Result<()> {
-    print::hex_byte(err, byte)
-}
-
 // Why a row has no frames.
 fn explain(err: &impl Print, row: &[u8]) -> io::Result<()> {
     if LONGEST < row.len() {
-        say(err, b"the row is longer than ")?;
-        decimal(err, LONGEST)?;
-        return say(err, b" bytes\n");
+        return println!(err; "the row is longer than {LONGEST} bytes");
     }
     let place = byte_without(row);
-    if place < row.len() {
-        say(err, b"byte ")?;
-        decimal(err, place)?;
-        say(err, b" is ")?;
-        hex(err, row[place])?;
-        say(err, b", which has no command on the loop\n")?;
+    match row.get(place) {
+        Some(byte) => {
+            let byte = hex_byte(*byte);
+            println!(err; "byte {place} is {byte}, which has no command on the loop")
+        }
+        None => Ok(()),
     }
-    Ok(())
 }
 
 // The lines of a row go out.

@@ -1,23 +1,23 @@
 -- Each line is three digits and a newline, and no digit is one: so the lister cuts the lines where they end, and reads
 -- of each the frame that was written.
-use Prim.Native.Nat.{ℕ, suc, ◌+◌, ◌*◌, ◌/◌, ◌%◌, ◌≤◌, ◌<◌}
-use mathlib.Core.Path.{◌≡◌, refl, sym, ap, ◌∙◌}
-use mathlib.Core.Bool.{Bool, true, false, not, cond, ◌&&◌}
-use mathlib.Core.List.{List, [], ◌∷◌, ◌++◌, map}
+use Prim.Native.Nat.{ℕ, ◌+◌, ◌*◌, ◌/◌, ◌%◌, ◌≤◌, ◌<◌}
+use mathlib.Core.Path.{◌≡◌, refl}
+use mathlib.Core.Bool.{Bool, true, false, not, cond}
+use mathlib.Core.List.{List, [], ◌∷◌, ◌++◌}
 use native.Mathlib.Omega.{arith}
 use lib.Dec.{eqb, ltb}
 use lib.ListN.{length, length-append}
 use borrow.Author.Tests.{lt-ltb, le-ltb, ltb-true, ltb-false, not-true}
 use Rattle.frame.specs.Messages.{frames}
 use Rattle.frame.proofs.Laws.{both_true}
-use Rattle.frame.proofs.Table.{values, same}
+use Rattle.frame.proofs.Table.{same}
 use Rattle.area.specs.Parts.{all}
 use Rattle.bus.specs.Codes.{has_command, command_of, rfc}
 use Rattle.bus.specs.Rows.{imported, have_commands, byte_without}
 use Rattle.bus.proofs.Codes.{low}
 use Rattle.bus.proofs.Rows.{lengths}
 use Rattle.bus.proofs.Loops.{rfc_is}
-use Rattle.text.specs.Digits.{char_of, digit_of, hex, number_at, decimal}
+use Rattle.text.specs.Digits.{char_of, digit_of, hex, number_at}
 use Rattle.text.specs.Words.{newline}
 use Rattle.text.specs.Out.{script_line, bad_line, long_line}
 use Rattle.text.proofs.Numbers.{five_digits}

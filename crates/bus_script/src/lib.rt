@@ -23,10 +23,8 @@ fn lines(frames: &[u16], out: &mut [u8]) -> usize
     ensures { Wrote (script_of frames.now) 0 out.old result out.new }
 {
     let mut at = 0;
-    let mut i = 0;
-    while i < frames.len() {
-        at = script_line(out, at, frames[i]);
-        i += 1;
+    for frame in frames {
+        at = script_line(out, at, *frame);
     }
     at
 }

@@ -1,27 +1,21 @@
--- The first byte of a part, and what is left of the place of a byte behind it.
-use Rattle.std.proofs.Common.{ℕ, suc, ◌+◌, ◌-◌, ◌≤◌, ◌<◌, ◌≡◌, List, [], ◌∷◌}
-use Rattle.std.proofs.Common.{length, get_or, arith, add-one}
-use Rattle.std.proofs.Math.Seq.{drop-cons}
-use Rattle.std.proofs.lemmas.Bool.{eq-eqb, ne_eqb}
-use Rattle.byte_runs.specs.Bytes.{slice, index_of, index_after}
+-- The place of a byte as std tells it: the first that passes a test, or the length where none does.
+use Rattle.std.proofs.Common.{ℕ, ◌≡◌, ◌≤◌, List, length, eqb, ltb, cond, not, refl, arith}
+use Rattle.std.specs.Prelude.{Option, None, Some, unwrap_or}
+use Rattle.std.specs.List.{position, position_or_len}
+use Rattle.std.proofs.lemmas.Bool.Decides.{nat_tests}
+use Rattle.std.proofs.lemmas.List.Recursion.{is_position_or_len}
+use Rattle.std.proofs.lemmas.List.Sums.{prefix_len-le-length}
+use Rattle.byte_runs.specs.Bytes.{index_of, index_after}
 
-cut : (i to : ℕ) (s : List ℕ) → i < to → to ≤ length s → slice i to s ≡ get_or s i 0 ∷ slice (suc i) to s
-cut i to s h l =
-    let k : i < length s = omega arith in
-    let e : to - i ≡ suc (to - suc i) = omega arith in rw (drop-cons s i 0 k, e)
-
-empty : (to : ℕ) (s : List ℕ) → slice to to s ≡ []
-empty to s = let e : to - to ≡ 0 = omega arith in rw e
-
-pub at_end : (b to : ℕ) (s : List ℕ) → index_of b (slice to to s) ≡ 0
-unfolding index_of
-at_end b to s = rw (empty to s)
-
-pub at_hit : (b i to : ℕ) (s : List ℕ) → i < to → to ≤ length s → get_or s i 0 ≡ b → index_of b (slice i to s) ≡ 0
+index_first : (b : ℕ) (s : List ℕ) → index_of b s ≡ position_or_len (λ x. eqb x b) s
 unfolding index_of index_after
-at_hit b i to s h l e = rw (cut i to s h l, eq-eqb (get_or s i 0) b e)
+index_first b s = is_position_or_len (index_of b) (λ x. eqb x b) refl (λ x xs. grind arith) s
 
-pub at_miss : (b i to : ℕ) (s : List ℕ) → i < to → to ≤ length s → (get_or s i 0 ≡ b → ⊥) →
-    index_of b (slice i to s) ≡ suc (index_of b (slice (i + 1) to s))
-unfolding index_of index_after
-at_miss b i to s h l e = rw (cut i to s h l, ne_eqb (get_or s i 0) b e, add-one)
+or_length : (n i : ℕ) → i ≤ n → unwrap_or (cond (ltb i n) (Some i) None) n ≡ i
+or_length n i h = grind (arith, nat_tests)
+
+pub index_found : (b : ℕ) (s : List ℕ) {r : Option ℕ} → r ≡ position (λ x. eqb x b) s →
+    (unwrap_or r (length s) ≡ index_of b s) × (index_of b s ≤ length s)
+index_found b s e =
+    let h = prefix_len-le-length (λ x. not (eqb x b)) s in
+    rw (e, index_first b s) (or_length _ _ h, h)

@@ -20,10 +20,8 @@ pub fn find(s: &[u8], from: usize, to: usize, byte: u8) -> usize
     requires { (from ≤ to) × (to ≤ length s.now) }
     ensures { (result ≡ from + index_of byte (slice from to s.now)) × (result ≤ to) }
 {
-    for i in from..to {
-        if s[i] == byte {
-            return i;
-        }
+    match s[from..to].iter().position(|b| *b == byte) {
+        Some(ahead) => from + ahead,
+        None => to,
     }
-    to
 }

@@ -7,6 +7,7 @@ use Prim.Native.Nat.{ℕ, zero, suc, ◌<◌}
 use lib.Dec.{ltb, eqb}
 use lib.ListN.{length, length-set}
 use borrow.Author.Tests.{ltb-true}
+use Rattle.std.specs.Prelude.{Option, Some, None}
 use Rattle.frame.specs.Messages.{frames}
 use Rattle.frame.specs.Coding.{bad_frame}
 use Rattle.device.specs.declared.Device.{Device}
@@ -16,9 +17,6 @@ use Rattle.keeps.proofs.Keeps.{take_good}
 use Rattle.area.specs.Sizes.{depth}
 use Rattle.area.specs.Loop.{Loop, size, device, link, SoundLoop}
 use Rattle.area.specs.Lookup.{oldest_of, room_of, place_of, set_device, add, remove}
-use Rattle.area.specs.declared.Oldest.{Oldest}
-use Rattle.area.specs.declared.Room.{Room}
-use Rattle.area.specs.declared.Place.{Place}
 use Rattle.area.proofs.Links.{oldest_is, room_is, frames_less, frames_more}
 use Rattle.area.proofs.Areas.{device_kept, link_kept}
 use Rattle.calls.specs.Outcome.{Outcome, refuse, done, loop_after}
@@ -54,7 +52,7 @@ module _ (l : Loop) (s : SoundLoop l) where
   }
 
   -- the oldest frame of a link is a frame, so what a device makes of it is good
-  pub sent_good : (i f : ℕ) → oldest_of (link l i) ≡ Oldest.Frame f →
+  pub sent_good : (i f : ℕ) → oldest_of (link l i) ≡ Some f →
       Good (sent_by i f l).device × ((sent_by i f l).frame < frames)
   sent_good i f e = take_good (device l i) f (s.devices i) (rw (oldest_is (link l i) f e) ((s.frames i).each 0))
 
@@ -62,7 +60,7 @@ module _ (l : Loop) (s : SoundLoop l) where
 and_then : (l m n : Loop) → Kept l m → Kept m n → Kept l n
 and_then l m n p q = record { sound = q.sound; same = q.same ∙ p.same }
 
-passed_kept : (i f : ℕ) (l : Loop) → SoundLoop l → oldest_of (link l i) ≡ Oldest.Frame f →
+passed_kept : (i f : ℕ) (l : Loop) → SoundLoop l → oldest_of (link l i) ≡ Some f →
     length (link l (suc i)) < depth → Kept l (passed i f l)
 passed_kept i f l s e room =
     let g = sent_good l s i f e in
@@ -80,36 +78,36 @@ pub put_keeps : PutKeeps
 unfolding put_in
 put_keeps f l s = go (ltb f frames) (room_of (link l 0)) refl refl
   where
-    go : (t : Bool) (r : Room) → ltb f frames ≡ t → room_of (link l 0) ≡ r →
+    go : (t : Bool) (r : Option ℕ) → ltb f frames ≡ t → room_of (link l 0) ≡ r →
         Kept l (loop_after {A = ℕ} l (cond t (into_room (done 0 (add 0 f l)) r) (refuse bad_frame)))
     go false r p q = unchanged l s
-    go true Room.Full p q = unchanged l s
-    go true (Room.Behind n) p q = add_kept l s 0 f (room_is (link l 0) n q).0 (ltb-true _ _ p)
+    go true None p q = unchanged l s
+    go true (Some n) p q = add_kept l s 0 f (room_is (link l 0) n q).0 (ltb-true _ _ p)
 
 pub take_keeps : TakeKeeps
 unfolding take_in
 take_keeps l s = go (oldest_of (link l (size l)))
   where
-    go : (o : Oldest) → Kept l (loop_after l (of_oldest (taken_from l) o))
-    go Oldest.Empty = unchanged l s
-    go (Oldest.Frame f) = remove_kept l s (size l)
+    go : (o : Option ℕ) → Kept l (loop_after l (of_oldest (taken_from l) o))
+    go None = unchanged l s
+    go (Some f) = remove_kept l s (size l)
 
 pub hop_keeps : HopKeeps
 unfolding hop_in
 hop_keeps i l s = there (place_of l i) refl
   where
-    room : (k f : ℕ) → oldest_of (link l k) ≡ Oldest.Frame f → (r : Room) → room_of (link l (suc k)) ≡ r →
+    room : (k f : ℕ) → oldest_of (link l k) ≡ Some f → (r : Option ℕ) → room_of (link l (suc k)) ≡ r →
         Kept l (loop_after l (into_room (passes k f l) r))
-    room k f e (Room.Behind n) q = passed_kept k f l s e (room_is (link l (suc k)) n q).0
-    room k f e Room.Full q = unchanged l s
+    room k f e (Some n) q = passed_kept k f l s e (room_is (link l (suc k)) n q).0
+    room k f e None q = unchanged l s
 
-    oldest : (k : ℕ) (o : Oldest) → oldest_of (link l k) ≡ o → Kept l (loop_after l (of_oldest (passes_on k l) o))
-    oldest k Oldest.Empty e = unchanged l s
-    oldest k (Oldest.Frame f) e = room k f e (room_of (link l (suc k))) refl
+    oldest : (k : ℕ) (o : Option ℕ) → oldest_of (link l k) ≡ o → Kept l (loop_after l (of_oldest (passes_on k l) o))
+    oldest k None e = unchanged l s
+    oldest k (Some f) e = room k f e (room_of (link l (suc k))) refl
 
-    there : (p : Place) → place_of l i ≡ p → Kept l (loop_after l (at_place (hop_from l) p))
-    there Place.NoDevice e = unchanged l s
-    there (Place.At k) e = oldest k (oldest_of (link l k)) refl
+    there : (p : Option ℕ) → place_of l i ≡ p → Kept l (loop_after l (at_place (hop_from l) p))
+    there None e = unchanged l s
+    there (Some k) e = oldest k (oldest_of (link l k)) refl
 
 -- a local call that keeps devices good
 pub local_keeps : (call : Device → Called) → ((d : Device) → Good d → Good (call d).device) → (i : ℕ) →
@@ -123,9 +121,9 @@ local_keeps call good i l s = there (place_of l i)
     called k false = unchanged l s
     called k true = set_kept l s k (call (device l k)).device (good (device l k) (s.devices k))
 
-    there : (p : Place) → Kept l (loop_after l (at_place (called_at call l) p))
-    there Place.NoDevice = unchanged l s
-    there (Place.At k) = called k (eqb (call (device l k)).refusal 0)
+    there : (p : Option ℕ) → Kept l (loop_after l (at_place (called_at call l) p))
+    there None = unchanged l s
+    there (Some k) = called k (eqb (call (device l k)).refusal 0)
 
 -- ---- the drain
 
@@ -145,16 +143,16 @@ drain_keeps_from : (b h : ℕ) (l m : Loop) → Kept l m → Kept l (loop_after 
 unfolding drain_from
 drain_keeps_from zero h l m s = go (highest (size m) m)
   where
-    go : (p : Place) → Kept l (loop_after l (on_place (stopped no_hop_left h m) (λ i. stopped budget_spent h m) p))
-    go Place.NoDevice = s
-    go (Place.At i) = s
+    go : (p : Option ℕ) → Kept l (loop_after l (on_place (stopped no_hop_left h m) (λ i. stopped budget_spent h m) p))
+    go None = s
+    go (Some i) = s
 drain_keeps_from (suc b) h l m s = go (λ k t. drain_keeps_from b (suc h) l k t) (highest (size m) m)
   where
-    go : ((k : Loop) → Kept l k → Kept l (loop_after l (drain_from b (suc h) k))) → (p : Place) →
+    go : ((k : Loop) → Kept l k → Kept l (loop_after l (drain_from b (suc h) k))) → (p : Option ℕ) →
         Kept l (loop_after l (on_place (stopped no_hop_left h m)
         (λ i. turned i h (drain_from b (suc h)) m (hop_in i m)) p))
-    go k Place.NoDevice = s
-    go k (Place.At i) =
+    go k None = s
+    go k (Some i) =
         turned_keeps i h (drain_from b (suc h)) l m s k (hop_in i m)
         (and_then l m (loop_after m (hop_in i m)) s (hop_keeps i m s.sound))
 

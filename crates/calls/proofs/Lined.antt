@@ -9,14 +9,13 @@ use native.Mathlib.Omega.{arith}
 use lib.ListN.{length, get_or}
 use lib.Dec.{ltb, lit<}
 use borrow.Author.Tests.{ltb-true, ltb-false}
+use Rattle.std.specs.Prelude.{Some, None}
 use Rattle.device.specs.Take.{takes}
 use Rattle.device.specs.declared.Device.{Device}
 use Rattle.record.specs.Record.{device_of}
 use Rattle.area.specs.Sizes.{depth}
 use Rattle.area.specs.Loop.{Loop}
 use Rattle.area.specs.Lookup.{oldest_of, set_device, set_link, add}
-use Rattle.area.specs.declared.Room.{Room}
-use Rattle.area.specs.declared.Place.{Place}
 use Rattle.order.specs.Line.{Line}
 use Rattle.order.specs.Flat as flat
 use Rattle.order.specs.Flat.{Flat, hop_flat}
@@ -63,7 +62,7 @@ module _ {Local Byte : Type 0} (hand : Device → ℕ → Option Byte) (act : De
         d = get_or x.states i (device_of [])
 
         room : (f : ℕ) (q : List ℕ) → flat.link x i ≡ f ∷ q → (t : Bool) → Alike HopAnswer (Option Byte) P
-            (into_room (passes i f (loop_flat x)) (cond t (Room.Behind (length (flat.link x (suc i)))) Room.Full))
+            (into_room (passes i f (loop_flat x)) (cond t (Some (length (flat.link x (suc i)))) None))
             (cond t (some (
               flat.add (suc i) (takes d f).frame (flat.set_link i q (flat.set_state i (takes d f).device x)),
               hand d f,
@@ -82,6 +81,6 @@ module _ {Local Byte : Type 0} (hand : Device → ℕ → Option Byte) (act : De
 
         go : (t : Bool) → ltb i (length x.states) ≡ t →
             Alike HopAnswer (Option Byte) P
-            (at_place (hop_from (loop_flat x)) (cond t (Place.At i) Place.NoDevice)) (hop_flat x i)
+            (at_place (hop_from (loop_flat x)) (cond t (Some i) None)) (hop_flat x i)
         go true e = rw (there x.states i (device_of []) (ltb-true _ _ e)) (from (flat.link x i) refl)
         go false e = rw (gone x.states i (ltb-false _ _ e)) (both_refuse 3 (λ z. omega arith))

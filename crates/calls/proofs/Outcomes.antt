@@ -7,16 +7,17 @@ use native.Mathlib.Omega.{arith}
 use lib.Dec.{eqb, ltb}
 use lib.Seq.{get_or-set_other}
 use borrow.Author.Tests.{lt-ltb, le-ltb, ltb-true, ltb-false, eq-eqb, ne_eqb}
+use Rattle.std.specs.Prelude.{Some, None}
 use Rattle.frame.specs.Messages.{frames}
 use Rattle.frame.specs.Coding.{bad_frame}
 use Rattle.device.specs.Device.{is_choice}
 use Rattle.device.specs.declared.Device.{Device}
 use Rattle.record_local.specs.Local.{Called, loads}
+use Rattle.refusal.specs.Refusal.{number}
+use Rattle.refusal.specs.declared.Refusal.{Refusal}
+use Rattle.refusal.proofs.Numbers.{numbered_above}
 use Rattle.area.specs.Loop.{Loop, size, loop_of, shape, unsound, shaped, sound, judge_of, judge_with, device, link}
 use Rattle.area.specs.Lookup.{oldest_of, room_of, place_of, set_link, add, remove}
-use Rattle.area.specs.declared.Oldest.{Oldest}
-use Rattle.area.specs.declared.Room.{Room}
-use Rattle.area.specs.declared.Place.{Place}
 use Rattle.calls.specs.Outcome.{Outcome, refuse, done, after, after_of, call_of, call_with, Is}
 use Rattle.calls.specs.Calls.{no_device, empty, full, of_oldest, into_room, put_in, taken_from, take_in, hop_answer}
 use Rattle.calls.specs.Calls.{refusal, sent_by, passed, passes, passes_on, hop_in, called_in, local_in, load_in}
@@ -38,12 +39,12 @@ module _ {A : Type 0} (deny : ℕ → A) (call : Loop → Outcome A) (a : List �
   call_done h = rw (eq-eqb _ _ h)
 
   -- in the form of a contract: the area is judged wrong, or else all is as with its loop
-  pub judged_wrong : (k : ℕ) (r : A) → k ≡ judge_of a → (k ≡ 0 → ⊥) → r ≡ deny k → Is (call_of deny call a) r a
-  judged_wrong k r e n d = rw (call_refused (λ z. n (e ∙ z))) (d ∙ ap deny e, refl)
+  pub judged_wrong : (e : Refusal) (r : A) → number e ≡ judge_of a → r ≡ deny (number e) → Is (call_of deny call a) r a
+  judged_wrong e r p d = rw (call_refused (λ z. numbered_above e (p ∙ z))) (d ∙ ap deny p, refl)
 
-  pub judged_right : (k : ℕ) (r : A) (x : List ℕ) → k ≡ judge_of a → k ≡ 0 →
+  pub judged_right : (r : A) (x : List ℕ) → 0 ≡ judge_of a →
       Is (after_of deny a (call (loop_of a))) r x → Is (call_of deny call a) r x
-  judged_right k r x e z h = rw (call_done (sym e ∙ z)) h
+  judged_right r x p h = rw (call_done (sym p)) h
 
 -- ---- load: its choice before all else
 
@@ -66,17 +67,17 @@ module _ (a : List ℕ) (i : ℕ) (bs : List ℕ) (e : ℕ) where
 
 -- ---- what the lookups say
 
-pub place_at : (l : Loop) (i k : ℕ) → place_of l i ≡ Place.At k → (i < size l) × (k ≡ i)
+pub place_at : (l : Loop) (i k : ℕ) → place_of l i ≡ Some k → (i < size l) × (k ≡ i)
 place_at l i k h = go (ltb i (size l)) refl h
   where
-    go : (t : Bool) → ltb i (size l) ≡ t → cond t (Place.At i) Place.NoDevice ≡ Place.At k → (i < size l) × (k ≡ i)
+    go : (t : Bool) → ltb i (size l) ≡ t → cond t (Some i) None ≡ Some k → (i < size l) × (k ≡ i)
     go true e p = (ltb-true _ _ e, cc)
     go false e p = let z : ◌≡◌ {A = ℕ} 0 1 = cc in let y : ⊥ = omega arith in absurd y
 
-pub place_none : (l : Loop) (i : ℕ) → place_of l i ≡ Place.NoDevice → size l ≤ i
+pub place_none : (l : Loop) (i : ℕ) → place_of l i ≡ None → size l ≤ i
 place_none l i h = go (ltb i (size l)) refl h
   where
-    go : (t : Bool) → ltb i (size l) ≡ t → cond t (Place.At i) Place.NoDevice ≡ Place.NoDevice → size l ≤ i
+    go : (t : Bool) → ltb i (size l) ≡ t → cond t (Some i) None ≡ None → size l ≤ i
     go true e p = let z : ◌≡◌ {A = ℕ} 0 1 = cc in let y : ⊥ = omega arith in absurd y
     go false e p = ltb-false _ _ e
 
@@ -87,20 +88,20 @@ module _ (f : ℕ) (l : Loop) where
   unfolding put_in
   put_bad h = rw (le-ltb _ _ h)
 
-  pub put_full : f < frames → room_of (link l 0) ≡ Room.Full → put_in f l ≡ refuse full
+  pub put_full : f < frames → room_of (link l 0) ≡ None → put_in f l ≡ refuse full
   unfolding put_in
   put_full h e = rw (lt-ltb _ _ h) (ap (into_room (done 0 (add 0 f l))) e)
 
-  pub put_done : (n : ℕ) → f < frames → room_of (link l 0) ≡ Room.Behind n → put_in f l ≡ done 0 (add 0 f l)
+  pub put_done : (n : ℕ) → f < frames → room_of (link l 0) ≡ Some n → put_in f l ≡ done 0 (add 0 f l)
   unfolding put_in
   put_done n h e = rw (lt-ltb _ _ h) (ap (into_room (done 0 (add 0 f l))) e)
 
 module _ (l : Loop) (n : ℕ) (tail : n ≡ size l) where
-  pub take_empty : oldest_of (link l n) ≡ Oldest.Empty → take_in l ≡ refuse empty
+  pub take_empty : oldest_of (link l n) ≡ None → take_in l ≡ refuse empty
   unfolding take_in
   take_empty e = ap (of_oldest (taken_from l)) (rw tail at e)
 
-  pub take_done : (f : ℕ) → oldest_of (link l n) ≡ Oldest.Frame f →
+  pub take_done : (f : ℕ) → oldest_of (link l n) ≡ Some f →
       take_in l ≡ done (record { frame = f; refusal = 0 }) (remove n l)
   unfolding take_in
   take_done f e = rw tail (ap (of_oldest (taken_from l)) (rw tail at e))
@@ -112,17 +113,17 @@ module _ (i : ℕ) (l : Loop) where
   unfolding hop_in
   hop_none h = rw (le-ltb _ _ h)
 
-  pub hop_empty : i < size l → oldest_of (link l i) ≡ Oldest.Empty → hop_in i l ≡ refuse empty
+  pub hop_empty : i < size l → oldest_of (link l i) ≡ None → hop_in i l ≡ refuse empty
   unfolding hop_in
   hop_empty h e = rw (lt-ltb _ _ h) (ap (of_oldest (passes_on i l)) e)
 
-  pub hop_full : (f : ℕ) → i < size l → oldest_of (link l i) ≡ Oldest.Frame f → room_of (link l (suc i)) ≡ Room.Full →
+  pub hop_full : (f : ℕ) → i < size l → oldest_of (link l i) ≡ Some f → room_of (link l (suc i)) ≡ None →
       hop_in i l ≡ refuse full
   unfolding hop_in
   hop_full f h e s = rw (lt-ltb _ _ h) (ap (of_oldest (passes_on i l)) e ∙ ap (into_room (passes i f l)) s)
 
-  pub hop_done : (f n : ℕ) → i < size l → oldest_of (link l i) ≡ Oldest.Frame f →
-      room_of (link l (suc i)) ≡ Room.Behind n →
+  pub hop_done : (f n : ℕ) → i < size l → oldest_of (link l i) ≡ Some f →
+      room_of (link l (suc i)) ≡ Some n →
       hop_in i l ≡ done (hop_answer (sent_by i f l).frame (sent_by i f l).handed) (passed i f l)
   unfolding hop_in
   hop_done f n h e s = rw (lt-ltb _ _ h) (ap (of_oldest (passes_on i l)) e ∙ ap (into_room (passes i f l)) s)
@@ -141,3 +142,7 @@ module _ (call : Device → Called) (i : ℕ) (l : Loop) where
   pub local_there : i < size l → local_in call i l ≡ called_in i l (call (device l i))
   unfolding local_in
   local_there h = rw (lt-ltb _ _ h)
+
+-- the ways through put, take and hop
+pub ruleset ways =
+    (call_refused, call_done, put_bad, put_full, put_done, take_empty, take_done, hop_empty, hop_full, hop_done)

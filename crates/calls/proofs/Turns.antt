@@ -1,7 +1,7 @@
 -- The drain, turn by turn: which device is found, what its hop does, and what the whole drain then is.
 use mathlib.Core.Path.{◌≡◌, refl, sym, ap, ◌∙◌}
 use mathlib.Core.List.{List, [], tail}
-use mathlib.Core.Bool.{Bool, true, false, cond}
+use mathlib.Core.Bool.{Bool, true, false, cond, ◌&&◌}
 use Prim.Native.Nat.{ℕ, zero, suc, ◌+◌, ◌-◌, ◌≤◌, ◌<◌}
 use native.Mathlib.Omega.{arith}
 use native.Mathlib.Numerals.{add-one}
@@ -10,17 +10,15 @@ use lib.Dec.{eqb, ltb}
 use lib.Seq.{get_or-set_other}
 use lib.ListN.{length, set}
 use borrow.Author.Tests.{lt-ltb, eqb-true, eqb-false, eq-eqb, ne_eqb}
+use Rattle.std.specs.Prelude.{Option, Some, None, is_some}
 use Rattle.record.specs.Fits.{Bytes}
 use Rattle.area.specs.Loop.{Loop, loop_of, area_of, judge_of, size, link, SoundLoop, Holds}
 use Rattle.area.specs.Lookup.{oldest_of, room_of}
-use Rattle.area.specs.declared.Oldest.{Oldest}
-use Rattle.area.specs.declared.Room.{Room}
-use Rattle.area.specs.declared.Place.{Place}
 use Rattle.area.proofs.Areas.{area_holds, loop_good, holds_of}
 use Rattle.order.specs.Owed.{owed}
 use Rattle.calls.specs.Outcome.{Outcome, refuse, done, after_of, Is, loop_after}
 use Rattle.calls.specs.Calls.{at_place, of_oldest, into_room, no_hop, passes, passes_on, hop_from, hop_in}
-use Rattle.calls.specs.Drain.{no_hop_left, budget_spent, byte_handed, event_reported, no_drain, has_room, can_from}
+use Rattle.calls.specs.Drain.{no_hop_left, budget_spent, byte_handed, event_reported, no_drain, can_from}
 use Rattle.calls.specs.Drain.{can_hop, highest, stopped, handed_to, reported_by, turned, drain_from, drain_in}
 use Rattle.calls.specs.declared.HopAnswer.{HopAnswer}
 use Rattle.calls.specs.declared.DrainAnswer.{DrainAnswer}
@@ -36,16 +34,16 @@ after_area deny l a (done r m) h = refl
 
 -- ---- who can hop
 
-pub can_empty : (i : ℕ) (l : Loop) → oldest_of (link l i) ≡ Oldest.Empty → can_hop i l ≡ false
+pub can_both : (i : ℕ) (l : Loop) →
+    can_hop i l ≡ (is_some (oldest_of (link l i)) && is_some (room_of (link l (suc i))))
 unfolding can_hop
-can_empty i l e = ap (can_from i l) e
+can_both i l = go (oldest_of (link l i))
+  where
+    go : (o : Option ℕ) → can_from i l o ≡ (is_some o && is_some (room_of (link l (suc i))))
+    go None = refl
+    go (Some f) = refl
 
-pub can_is : (i f : ℕ) (l : Loop) → oldest_of (link l i) ≡ Oldest.Frame f →
-    can_hop i l ≡ has_room (room_of (link l (suc i)))
-unfolding can_hop
-can_is i f l e = ap (can_from i l) e
-
-pub highest_found : (k : ℕ) (l : Loop) → 0 < k → can_hop (k - 1) l ≡ true → highest k l ≡ Place.At (k - 1)
+pub highest_found : (k : ℕ) (l : Loop) → 0 < k → can_hop (k - 1) l ≡ true → highest k l ≡ Some (k - 1)
 unfolding highest
 highest_found zero l h t = absurd (not-suc-le-zero h)
 highest_found (suc k) l h t = let e : suc k - 1 ≡ k = omega arith in rw (e, rw e at t)
@@ -55,7 +53,7 @@ unfolding highest
 highest_next zero l h t = absurd (not-suc-le-zero h)
 highest_next (suc k) l h t = let e : suc k - 1 ≡ k = omega arith in rw (e, rw e at t)
 
-pub highest_none : (l : Loop) → highest 0 l ≡ Place.NoDevice
+pub highest_none : (l : Loop) → highest 0 l ≡ None
 unfolding highest
 highest_none l = refl
 
@@ -64,13 +62,13 @@ pub can_done : (i : ℕ) (l : Loop) → i < size l → can_hop i l ≡ true → 
 unfolding hop_in can_hop
 can_done i l h t = rw (lt-ltb _ _ h) (go (oldest_of (link l i)) t)
   where
-    room : (f : ℕ) (r : Room) → has_room r ≡ true → IsDone (into_room (passes i f l) r)
-    room f (Room.Behind n) c = tt
-    room f Room.Full c = let z : ◌≡◌ {A = ℕ} 0 1 = cc in omega arith
+    room : (f : ℕ) (r : Option ℕ) → is_some r ≡ true → IsDone (into_room (passes i f l) r)
+    room f (Some n) c = tt
+    room f None c = let z : ◌≡◌ {A = ℕ} 0 1 = cc in omega arith
 
-    go : (o : Oldest) → can_from i l o ≡ true → IsDone (of_oldest (passes_on i l) o)
-    go Oldest.Empty c = let z : ◌≡◌ {A = ℕ} 0 1 = cc in omega arith
-    go (Oldest.Frame f) c = room f (room_of (link l (suc i))) c
+    go : (o : Option ℕ) → can_from i l o ≡ true → IsDone (of_oldest (passes_on i l) o)
+    go None c = let z : ◌≡◌ {A = ℕ} 0 1 = cc in omega arith
+    go (Some f) c = room f (room_of (link l (suc i))) c
 
 -- ---- who cannot
 
@@ -86,7 +84,7 @@ highest_past (suc n) k l h none =
     go false e rest =
         let le : k ≤ n = omega (arith, h, eqb-false k (suc n) e) in rw (none n le (omega arith)) (rest le)
 
-none_past : (n i : ℕ) (l : Loop) → highest n l ≡ Place.At i → (j : ℕ) → i < j → j < n → can_hop j l ≡ false
+none_past : (n i : ℕ) (l : Loop) → highest n l ≡ Some i → (j : ℕ) → i < j → j < n → can_hop j l ≡ false
 unfolding highest
 none_past zero i l e j p q = absurd (not-suc-le-zero q)
 none_past (suc n) i l e j p q = go (can_hop n l) refl e (λ s k. none_past n i l s j p k)
@@ -95,8 +93,8 @@ none_past (suc n) i l e j p q = go (can_hop n l) refl e (λ s k. none_past n i l
     last true d f rest = rw (eqb-true j n d) f
     last false d f rest = rest (omega (arith, eqb-false j n d, q))
 
-    go : (t : Bool) → can_hop n l ≡ t → cond t (Place.At n) (highest n l) ≡ Place.At i →
-        (highest n l ≡ Place.At i → j < n → can_hop j l ≡ false) → can_hop j l ≡ false
+    go : (t : Bool) → can_hop n l ≡ t → cond t (Some n) (highest n l) ≡ Some i →
+        (highest n l ≡ Some i → j < n → can_hop j l ≡ false) → can_hop j l ≡ false
     go true f s rest = let z : n ≡ i = cc in absurd (omega arith)
     go false f s rest = last (eqb j n) refl f (rest s)
 
@@ -105,17 +103,17 @@ links_past : (i k : ℕ) (l : Loop) → suc i < k → link (loop_after l (hop_in
 unfolding hop_in
 links_past i k l h = go (ltb i (size l))
   where
-    sent : (f : ℕ) (r : Room) → link (loop_after l (into_room (passes i f l) r)) k ≡ link l k
-    sent f Room.Full = refl
-    sent f (Room.Behind n) =
+    sent : (f : ℕ) (r : Option ℕ) → link (loop_after l (into_room (passes i f l) r)) k ≡ link l k
+    sent f None = refl
+    sent f (Some n) =
         get_or-set_other (set l.links i (tail (link l i))) (suc i) k _ [] (λ e. omega arith)
         ∙ get_or-set_other l.links i k (tail (link l i)) [] (λ e. omega arith)
 
-    took : (o : Oldest) → link (loop_after l (of_oldest (passes_on i l) o)) k ≡ link l k
-    took Oldest.Empty = refl
-    took (Oldest.Frame f) = sent f (room_of (link l (suc i)))
+    took : (o : Option ℕ) → link (loop_after l (of_oldest (passes_on i l) o)) k ≡ link l k
+    took None = refl
+    took (Some f) = sent f (room_of (link l (suc i)))
 
-    go : (t : Bool) → link (loop_after l (at_place (hop_from l) (cond t (Place.At i) Place.NoDevice))) k ≡ link l k
+    go : (t : Bool) → link (loop_after l (at_place (hop_from l) (cond t (Some i) None))) k ≡ link l k
     go true = took (oldest_of (link l i))
     go false = refl
 
@@ -124,23 +122,23 @@ can_past : (i j : ℕ) (l : Loop) → suc i < j → can_hop j (loop_after l (hop
 unfolding can_hop
 can_past i j l h = rw (links_past i j l h) (go (oldest_of (link l j)))
   where
-    go : (o : Oldest) → can_from j (loop_after l (hop_in i l)) o ≡ can_from j l o
-    go Oldest.Empty = refl
-    go (Oldest.Frame f) = rw (links_past i (suc j) l (omega arith))
+    go : (o : Option ℕ) → can_from j (loop_after l (hop_in i l)) o ≡ can_from j l o
+    go None = refl
+    go (Some f) = rw (links_past i (suc j) l (omega arith))
 
 -- ---- the drain
 
 module _ (h : ℕ) (l : Loop) where
-  pub drain_none : (b : ℕ) → highest (size l) l ≡ Place.NoDevice → drain_from b h l ≡ stopped no_hop_left h l
+  pub drain_none : (b : ℕ) → highest (size l) l ≡ None → drain_from b h l ≡ stopped no_hop_left h l
   unfolding drain_from
   drain_none zero e = rw e
   drain_none (suc b) e = rw e
 
-  pub drain_spent : (b i : ℕ) → b ≡ 0 → highest (size l) l ≡ Place.At i → drain_from b h l ≡ stopped budget_spent h l
+  pub drain_spent : (b i : ℕ) → b ≡ 0 → highest (size l) l ≡ Some i → drain_from b h l ≡ stopped budget_spent h l
   unfolding drain_from
   drain_spent b i z e = rw (z, e)
 
-  pub drain_turn : (b i : ℕ) → 0 < b → highest (size l) l ≡ Place.At i →
+  pub drain_turn : (b i : ℕ) → 0 < b → highest (size l) l ≡ Some i →
       drain_from b h l ≡ turned i h (drain_from (b - 1) (h + 1)) l (hop_in i l)
   unfolding drain_from
   drain_turn zero i z e = absurd (not-suc-le-zero z)
@@ -206,13 +204,13 @@ Drains a₀ b r x = Is (after_of no_drain a₀ (drain_in b (loop_of a₀))) r x
 module _ (a₀ a : List ℕ) (b n h : ℕ) (t : Turn a₀ a b n h) where
   -- it stops before a hop
   module _ (d y z : ℕ) (none : (d ≡ 0) × (y ≡ 0) × (z ≡ 0)) where
-    pub none_left : highest n (loop_of a) ≡ Place.NoDevice →
+    pub none_left : highest n (loop_of a) ≡ None →
         Drains a₀ b (record { hops = h; refusal = 0; reason = no_hop_left; device = d; byte = y; end = z }) a
     none_left e =
         rw (t.rest ∙ drain_none h (loop_of a) (b - h) (rw t.count at e), none.0, none.1, none.2)
         (refl, t.holds.written)
 
-    pub none_more : (i : ℕ) → highest n (loop_of a) ≡ Place.At i → h ≡ b →
+    pub none_more : (i : ℕ) → highest n (loop_of a) ≡ Some i → h ≡ b →
         Drains a₀ b (record { hops = h; refusal = 0; reason = budget_spent; device = d; byte = y; end = z }) a
     none_more i e k =
         rw (
@@ -223,7 +221,7 @@ module _ (a₀ a : List ℕ) (b n h : ℕ) (t : Turn a₀ a b n h) where
         ) (refl, t.holds.written)
 
   -- or device i hops
-  module _ (i : ℕ) (found : highest n (loop_of a) ≡ Place.At i) (there : i < n) (can : can_hop i (loop_of a) ≡ true)
+  module _ (i : ℕ) (found : highest n (loop_of a) ≡ Some i) (there : i < n) (can : can_hop i (loop_of a) ≡ true)
       (more : h ≡ b → ⊥)
       (r : HopAnswer) (x : List ℕ) (is : Is (after_of no_hop a (hop_in i (loop_of a))) r x) where
     abbrev l : Loop

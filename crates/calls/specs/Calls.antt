@@ -1,6 +1,6 @@
 -- Put, take, hop and the local calls (01, The calls; 02, d, f and h), each on a loop and then on an area, with its
 -- refusals in 01's order.
-use Rattle.std.specs.Prelude.{ℕ, suc, List, cond, ltb, eqb}
+use Rattle.std.specs.Prelude.{ℕ, suc, List, cond, ltb, eqb, Option, Some, None}
 use Rattle.frame.specs.Messages.{frames}
 use Rattle.frame.specs.Coding.{bad_frame}
 use Rattle.device.specs.Device.{is_choice}
@@ -13,9 +13,6 @@ use Rattle.device.specs.Sent.{Sent}
 use Rattle.record_local.specs.Local.{Called}
 use Rattle.area.specs.Loop.{Loop, size, unsound, device, link}
 use Rattle.area.specs.Lookup.{oldest_of, room_of, place_of, set_device, add, remove}
-use Rattle.area.specs.declared.Oldest.{Oldest}
-use Rattle.area.specs.declared.Room.{Room}
-use Rattle.area.specs.declared.Place.{Place}
 use Rattle.calls.specs.Outcome.{Outcome, refuse, done, After, call_of}
 use Rattle.calls.specs.declared.HopAnswer.{HopAnswer}
 use Rattle.calls.specs.declared.TakeAnswer.{TakeAnswer}
@@ -33,19 +30,19 @@ full = 6
 -- ---- the lookups' answers in the paper's numbers
 
 -- with the device at a place, refusal 3 where there is none
-abbrev pub at_place : {A : Type 0} → (ℕ → Outcome A) → Place → Outcome A
-at_place call Place.NoDevice = refuse no_device
-at_place call (Place.At i) = call i
+abbrev pub at_place : {A : Type 0} → (ℕ → Outcome A) → Option ℕ → Outcome A
+at_place call None = refuse no_device
+at_place call (Some i) = call i
 
 -- with a link's oldest frame, refusal 5 where it holds none
-abbrev pub of_oldest : {A : Type 0} → (ℕ → Outcome A) → Oldest → Outcome A
-of_oldest call Oldest.Empty = refuse empty
-of_oldest call (Oldest.Frame f) = call f
+abbrev pub of_oldest : {A : Type 0} → (ℕ → Outcome A) → Option ℕ → Outcome A
+of_oldest call None = refuse empty
+of_oldest call (Some f) = call f
 
 -- into a link's room, refusal 6 where there is none
-abbrev pub into_room : {A : Type 0} → Outcome A → Room → Outcome A
-into_room sent Room.Full = refuse full
-into_room sent (Room.Behind n) = sent
+abbrev pub into_room : {A : Type 0} → Outcome A → Option ℕ → Outcome A
+into_room sent None = refuse full
+into_room sent (Some n) = sent
 
 -- the answer of a call that answers its refusal alone
 abbrev pub refusal : ℕ → ℕ

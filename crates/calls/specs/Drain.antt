@@ -1,10 +1,7 @@
 -- The drain (01, The calls; 02, d): the highest-numbered device that can hop does, repeatedly.
-use Rattle.std.specs.Prelude.{ℕ, zero, suc, List, Bool, true, false, cond, eqb}
+use Rattle.std.specs.Prelude.{ℕ, zero, suc, List, Bool, false, cond, eqb, Option, Some, None, is_some}
 use Rattle.area.specs.Loop.{Loop, size, link}
 use Rattle.area.specs.Lookup.{oldest_of, room_of}
-use Rattle.area.specs.declared.Oldest.{Oldest}
-use Rattle.area.specs.declared.Room.{Room}
-use Rattle.area.specs.declared.Place.{Place}
 use Rattle.calls.specs.Outcome.{Outcome, refuse, done, After, call_of}
 use Rattle.calls.specs.Calls.{no_event, hop_in}
 use Rattle.calls.specs.declared.HopAnswer.{HopAnswer}
@@ -26,23 +23,18 @@ event_reported = 3
 abbrev pub no_drain : ℕ → DrainAnswer
 no_drain k = record { hops = 0; refusal = k; reason = 0; device = 0; byte = 0; end = 0 }
 
--- there is room
-abbrev pub has_room : Room → Bool
-has_room Room.Full = false
-has_room (Room.Behind n) = true
-
 -- device i can hop: there is a frame for it, and room for the one that it sends
-abbrev pub can_from : ℕ → Loop → Oldest → Bool
-can_from i l Oldest.Empty = false
-can_from i l (Oldest.Frame f) = has_room (room_of (link l (suc i)))
+abbrev pub can_from : ℕ → Loop → Option ℕ → Bool
+can_from i l None = false
+can_from i l (Some f) = is_some (room_of (link l (suc i)))
 
 unfoldable pub can_hop : ℕ → Loop → Bool
 can_hop i l = can_from i l (oldest_of (link l i))
 
 -- the highest-numbered of the first k devices that can hop
-unfoldable pub highest : ℕ → Loop → Place
-highest zero l = Place.NoDevice
-highest (suc k) l = let r = highest k l in cond (can_hop k l) (Place.At k) r
+unfoldable pub highest : ℕ → Loop → Option ℕ
+highest zero l = None
+highest (suc k) l = let r = highest k l in cond (can_hop k l) (Some k) r
 
 -- it stops before a hop, after h hops
 abbrev pub stopped : ℕ → ℕ → Loop → Outcome DrainAnswer
@@ -67,9 +59,9 @@ turned i h next l (done r m) =
     (cond (eqb r.event no_event) (next m) (reported_by i (suc h) r m))
 
 -- one thing where there is no device, another by the device's number
-abbrev pub on_place : {A : Type 0} → A → (ℕ → A) → Place → A
-on_place none some Place.NoDevice = none
-on_place none some (Place.At i) = some i
+abbrev pub on_place : {A : Type 0} → A → (ℕ → A) → Option ℕ → A
+on_place none some None = none
+on_place none some (Some i) = some i
 
 -- with a budget of b more hops, after h
 unfoldable pub drain_from : ℕ → ℕ → Loop → Outcome DrainAnswer

@@ -1,12 +1,6 @@
-// What the calls answer to a caller in C, and the refusals that they give of themselves; those of an area, a frame and
-// a device stand in their crates. What each call does is said in specs/, and done in the crates above.
+// What the calls answer to a caller in C; the crate refusal has why one is refused. What each call does is said in
+// specs/, and done in the crates above.
 #![tactic(auto)]
-
-pub const NO_DEVICE: u8 = 3;
-
-pub const EMPTY: u8 = 5;
-
-pub const FULL: u8 = 6;
 
 // The events that a hop reports: none, a clear, a trigger.
 pub const NO_EVENT: u8 = 0;

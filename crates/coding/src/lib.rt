@@ -3,8 +3,9 @@
 
 ghost use Rattle.std.specs.Prelude.{◌≡◌};
 ghost use Rattle.coding.specs.Coding.{no_decoding, decode_answer, no_encoding, encode_answer};
+ghost use Rattle.refusal.specs.Refusal.{number};
 
-use frame::{BAD_FRAME, Decoded, Encoded};
+use refusal::Refusal;
 
 // A frame's kind, its offset in the kind, and C1.
 #[repr(C)]
@@ -25,34 +26,37 @@ pub struct EncodeAnswer {
 }
 
 // A refusal carries its number and otherwise zeros.
-fn no_decoding(refusal: u8) -> DecodeAnswer
-    ensures { result ≡ no_decoding refusal }
+fn no_decoding(refusal: Refusal) -> DecodeAnswer
+    ensures { result ≡ no_decoding (number refusal) }
 {
     DecodeAnswer {
         offset: 0,
-        refusal,
+        refusal: refusal.number(),
         kind: 0,
         c1: 0,
     }
 }
 
-fn no_encoding(refusal: u8) -> EncodeAnswer
-    ensures { result ≡ no_encoding refusal }
+fn no_encoding(refusal: Refusal) -> EncodeAnswer
+    ensures { result ≡ no_encoding (number refusal) }
 {
-    EncodeAnswer { frame: 0, refusal }
+    EncodeAnswer {
+        frame: 0,
+        refusal: refusal.number(),
+    }
 }
 
 pub fn decode(frame: u64) -> DecodeAnswer
     ensures { result ≡ decode_answer frame }
 {
     match frame::decode(frame) {
-        Decoded::Of(message) => DecodeAnswer {
+        Some(message) => DecodeAnswer {
             offset: message.offset as u16,
             refusal: 0,
             kind: message.kind,
             c1: message.c1,
         },
-        Decoded::BadFrame => no_decoding(BAD_FRAME),
+        None => no_decoding(Refusal::BadFrame),
     }
 }
 
@@ -60,7 +64,7 @@ pub fn encode(kind: u64, offset: u64, c1: u64) -> EncodeAnswer
     ensures { result ≡ encode_answer kind offset c1 }
 {
     match frame::encode(kind, offset, c1) {
-        Encoded::Frame(frame) => EncodeAnswer { frame, refusal: 0 },
-        Encoded::BadFrame => no_encoding(BAD_FRAME),
+        Some(frame) => EncodeAnswer { frame, refusal: 0 },
+        None => no_encoding(Refusal::BadFrame),
     }
 }

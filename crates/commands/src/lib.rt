@@ -2,25 +2,23 @@
 // clear or trigger that it is.
 #![tactic(auto)]
 
-ghost use Rattle.std.specs.Prelude.{◌≡◌, length};
+ghost use Rattle.std.specs.Prelude.{◌≡◌};
 ghost use Rattle.device.specs.Clear.{reports, to_listener};
 ghost use Rattle.device.specs.Commands.{lad, tad, aau};
 ghost use Rattle.device.specs.Take.{takes_simple};
 ghost use Rattle.device.specs.declared.Device.{Device};
 ghost use Rattle.frame.specs.Classes.{IsCommand};
-ghost use Rattle.record.specs.Record.{record_size};
 ghost use Rattle.state.specs.State.{with, in_record, sent_with, sent_from};
 
 use device::{Device, Handed};
 use frame::Kind;
 use poll::{ppd, ppe, ppu};
-use record::FIXED;
 use record::read::{has, talks};
+use record::{FIXED, SIZE};
 use remote::{gtl, llo, nre, ren, to_remote};
 use state::{Passed, State, sends};
 
-fn lad(state: State, rec: &[u8], address: u8) -> State
-    requires { length rec.now ≡ record_size }
+fn lad(state: State, rec: &[u8; SIZE], address: u8) -> State
     ensures { in_record rec.now result ≡ lad (in_record rec.now state) address }
 {
     if address == state.address {
@@ -36,8 +34,7 @@ fn lad(state: State, rec: &[u8], address: u8) -> State
     state
 }
 
-fn tad(state: State, rec: &[u8], address: u8) -> State
-    requires { length rec.now ≡ record_size }
+fn tad(state: State, rec: &[u8; SIZE], address: u8) -> State
     ensures { in_record rec.now result ≡ tad (in_record rec.now state) address }
 {
     if address == state.address {
@@ -52,8 +49,7 @@ fn tad(state: State, rec: &[u8], address: u8) -> State
     state.talking(Device::IDLE)
 }
 
-fn aau(state: State, rec: &[u8]) -> State
-    requires { length rec.now ≡ record_size }
+fn aau(state: State, rec: &[u8; SIZE]) -> State
     ensures { in_record rec.now result ≡ aau (in_record rec.now state) }
 {
     if has(rec, Device::AUTO_ADDRESS) {
@@ -82,8 +78,8 @@ fn to_listener(state: State, frame: u16, event: Handed) -> Passed
 }
 
 // What a simple device does with a command.
-pub fn command(state: State, rec: &[u8], frame: u16) -> Passed
-    requires { (length rec.now ≡ record_size) × IsCommand frame }
+pub fn command(state: State, rec: &[u8; SIZE], frame: u16) -> Passed
+    requires { IsCommand frame }
     ensures { sent_from rec.now result ≡ takes_simple (in_record rec.now state) frame }
 {
     match frame::kind_of(frame) {

@@ -1,18 +1,18 @@
 // Data or end, and identify (01, What a device does with a frame; 02, b, f and g).
 #![tactic(auto)]
 
-ghost use Rattle.std.specs.Prelude.{◌≡◌, length};
+ghost use Rattle.std.specs.Prelude.{◌≡◌};
 ghost use Rattle.frame.specs.Classes.{IsData, IsIdentify};
 ghost use Rattle.frame.specs.Decoding.{decoded};
 ghost use Rattle.device.specs.Data.{end_bit, agrees, returned, heard};
 ghost use Rattle.device.specs.Take.{takes};
 ghost use Rattle.device.specs.declared.Device.{Device};
-ghost use Rattle.record.specs.Record.{record_size};
 ghost use Rattle.state.specs.State.{with, in_record, sent_with, sent_from};
 
 use device::{Device, Handed};
 use frame::{END, IDY, Message, data_of, idy_of, with_c1};
 use poll::answer;
+use record::SIZE;
 use reply::{ETE, ETO, continues, marked, stops};
 use state::{Passed, State, sends};
 
@@ -32,8 +32,8 @@ fn agrees(frame: u16, last: u16) -> bool
     true
 }
 
-fn returned(state: State, rec: &[u8], frame: u16) -> Passed
-    requires { (length rec.now ≡ record_size) × IsData frame × IsData state.last }
+fn returned(state: State, rec: &[u8; SIZE], frame: u16) -> Passed
+    requires { IsData frame × IsData state.last }
     ensures { sent_from rec.now result ≡ returned (in_record rec.now state) (decoded frame) }
 {
     if agrees(frame, state.last) {
@@ -71,8 +71,8 @@ fn heard(state: State, frame: u16) -> Passed
 }
 
 // What a device does with a data byte or an end byte.
-pub fn data_or_end(state: State, rec: &[u8], frame: u16) -> Passed
-    requires { (length rec.now ≡ record_size) × IsData frame × IsData state.last }
+pub fn data_or_end(state: State, rec: &[u8; SIZE], frame: u16) -> Passed
+    requires { IsData frame × IsData state.last }
     ensures { sent_from rec.now result ≡ takes (in_record rec.now state) frame }
 {
     if Device::ADDRESSED < state.talker {
@@ -82,8 +82,8 @@ pub fn data_or_end(state: State, rec: &[u8], frame: u16) -> Passed
 }
 
 // IDY goes on in every state, with the device's answer to the poll.
-pub fn identify(state: State, rec: &[u8], frame: u16) -> Passed
-    requires { (length rec.now ≡ record_size) × IsIdentify frame }
+pub fn identify(state: State, rec: &[u8; SIZE], frame: u16) -> Passed
+    requires { IsIdentify frame }
     ensures { sent_from rec.now result ≡ takes (in_record rec.now state) frame }
 {
     let came = with_c1(IDY, frame);

@@ -9,6 +9,7 @@ use native.Mathlib.Omega.{arith}
 use lib.ListN.{length, get_or}
 use lib.Dec.{eqb, ltb, leb}
 use borrow.Author.Tests.{eqb-false, ltb-true, ltb-false, lt-ltb}
+use Rattle.std.specs.Prelude.{Some, None}
 use Rattle.frame.specs.Messages.{frames}
 use Rattle.device.specs.Device.{is_choice}
 use Rattle.device.specs.Take.{takes}
@@ -16,10 +17,8 @@ use Rattle.device.specs.declared.Handed.{Handed}
 use Rattle.device.specs.declared.Handed.TheVariants as handed
 use Rattle.record_local.specs.Local.{Called, loads}
 use Rattle.record.specs.Record.{device_of}
-use Rattle.area.specs.Loop.{Loop, device, link}
+use Rattle.area.specs.Loop.{Loop}
 use Rattle.area.specs.Lookup.{oldest_of, set_device, set_link, add}
-use Rattle.area.specs.declared.Room.{Room}
-use Rattle.area.specs.declared.Place.{Place}
 use Rattle.calls.specs.Outcome.{Outcome, refuse, done}
 use Rattle.calls.specs.Calls.{at_place, of_oldest, into_room, hop_answer, put_in, taken_from, take_in, hop_in, called_in}
 use Rattle.calls.specs.Calls.{refusal, called_at, local_in, load_in}
@@ -63,7 +62,7 @@ unfolding put_in
 put_alike f x h = rw (lt-ltb f frames h) (go (flat.room x 0))
   where
     go : (t : Bool) → Alike ℕ (Unit {0}) Fine
-        (into_room (done 0 (add 0 f (loop_flat x))) (cond t (Room.Behind (length (flat.link x 0))) Room.Full))
+        (into_room (done 0 (add 0 f (loop_flat x))) (cond t (Some (length (flat.link x 0))) None))
         (bare (cond t (some (flat.add 0 f x)) none))
     go true = both_do 0 _ (flat.add 0 f x) tt refl refl
     go false = both_refuse 6 (λ z. omega arith)
@@ -117,7 +116,7 @@ called_local c i x = go (ltb i (length x.states)) refl
   where
     go : (t : Bool) → ltb i (length x.states) ≡ t →
         Alike ℕ (Unit {0}) Fine
-        (at_place (called_at (called_by c) (loop_flat x)) (cond t (Place.At i) Place.NoDevice)) (bare (call_flat x i c))
+        (at_place (called_at (called_by c) (loop_flat x)) (cond t (Some i) None)) (bare (call_flat x i c))
     go true e = rw (there x.states i (device_of []) (ltb-true _ _ e))
         (called_alike i x (called_by c (get_or x.states i (device_of []))))
     go false e = rw (gone x.states i (ltb-false _ _ e)) (both_refuse 3 (λ z. omega arith))

@@ -8,16 +8,15 @@ use mathlib.Core.List.{List, ◌++◌}
 use native.Mathlib.Omega.{arith}
 use lib.Dec.{eqb}
 use borrow.Author.Tests.{lt-ltb, eq-eqb}
+use Rattle.std.specs.Prelude
+use Rattle.std.specs.Prelude.{Some, None, is_some}
 use Rattle.area.specs.Loop.{Loop, count_in, size, loop_of, area_of, link, SoundLoop}
 use Rattle.area.specs.Lookup.{oldest_of, room_of}
-use Rattle.area.specs.declared.Oldest.{Oldest}
-use Rattle.area.specs.declared.Room.{Room}
-use Rattle.area.specs.declared.Place.{Place}
 use Rattle.area.proofs.Laws.{area_back, loop_back, loop_sound}
 use Rattle.calls.specs.Outcome.{Outcome, refuse, done, After, after, loop_after}
 use Rattle.calls.specs.Calls.{of_oldest, into_room, no_hop, sent_by, passes, passes_on, hop_in}
 use Rattle.calls.specs.Drain as loop
-use Rattle.calls.specs.Drain.{no_hop_left, budget_spent, no_drain, has_room, can_from, can_hop, stopped, handed_to}
+use Rattle.calls.specs.Drain.{no_hop_left, budget_spent, no_drain, can_from, can_hop, stopped, handed_to}
 use Rattle.calls.specs.Drain.{reported_by, turned, on_place, drain_from, drain_in}
 use Rattle.calls.specs.declared.HopAnswer.{HopAnswer}
 use Rattle.calls.specs.declared.DrainAnswer.{DrainAnswer}
@@ -52,13 +51,13 @@ can_accepted : (l : Loop) (i : ℕ) → i < size l → accepted l (hop_in i l) �
 unfolding hop_in can_hop
 can_accepted l i h = rw (lt-ltb _ _ h) (oldest (oldest_of (link l i)))
   where
-    room : (f : ℕ) (r : Room) → accepted l (into_room (passes i f l) r) ≡ has_room r
-    room f (Room.Behind n) = rw (hop_done (sent_by i f l).frame (sent_by i f l).handed)
-    room f Room.Full = refl
+    room : (f : ℕ) (r : Prelude.Option ℕ) → accepted l (into_room (passes i f l) r) ≡ is_some r
+    room f (Some n) = rw (hop_done (sent_by i f l).frame (sent_by i f l).handed)
+    room f None = refl
 
-    oldest : (o : Oldest) → accepted l (of_oldest (passes_on i l) o) ≡ can_from i l o
-    oldest Oldest.Empty = refl
-    oldest (Oldest.Frame f) = room f (room_of (link l (suc i)))
+    oldest : (o : Prelude.Option ℕ) → accepted l (of_oldest (passes_on i l) o) ≡ can_from i l o
+    oldest None = refl
+    oldest (Some f) = room f (room_of (link l (suc i)))
 
 module _ (l : Loop) (s : SoundLoop l) where
   can_is : (i : ℕ) → i < size l → can (area_of l) i ≡ can_hop i l
@@ -73,7 +72,7 @@ module _ (l : Loop) (s : SoundLoop l) where
   highest_is (suc k) h = rw (can_is k (omega arith)) (go (can_hop k l) (highest_is k (omega arith)))
     where
       go : (t : Bool) → loop.highest k l ≡ place (highest_of (area_of l) k) →
-          cond t (Place.At k) (loop.highest k l) ≡ place (cond t (some k) (highest_of (area_of l) k))
+          cond t (Some k) (loop.highest k l) ≡ place (cond t (some k) (highest_of (area_of l) k))
       go true e = refl
       go false e = e
 

@@ -7,13 +7,13 @@ use mathlib.Core.List.{List, [], ◌∷◌, ◌++◌}
 use native.Mathlib.Omega.{arith}
 use lib.Dec.{eqb}
 use lib.ListN.{length}
-use Rattle.area.specs.Loop.{Loop, size, link}
+use Rattle.std.specs.Prelude
+use Rattle.std.specs.Prelude.{Some, None, is_some}
+use Rattle.area.specs.Loop.{Loop, size}
 use Rattle.area.specs.Lookup.{oldest_of}
-use Rattle.area.specs.declared.Room.{Room}
-use Rattle.area.specs.declared.Place.{Place}
 use Rattle.calls.specs.Outcome.{Outcome, done}
 use Rattle.calls.specs.Calls.{hop_in}
-use Rattle.calls.specs.Drain.{no_hop_left, budget_spent, has_room, can_from, can_hop, highest, stopped, handed_to}
+use Rattle.calls.specs.Drain.{no_hop_left, budget_spent, can_from, can_hop, highest, stopped, handed_to}
 use Rattle.calls.specs.Drain.{reported_by, turned, on_place, drain_from}
 use Rattle.calls.specs.declared.HopAnswer.{HopAnswer}
 use Rattle.calls.specs.declared.DrainAnswer.{DrainAnswer}
@@ -33,7 +33,7 @@ can_alike : (x : Flat papers) (i : ℕ) → can_hop i (loop_flat x) ≡ flat.can
 unfolding can_hop
 can_alike x i = go (flat.link x i)
   where
-    room : (fs : List ℕ) (t : Bool) → has_room (cond t (Room.Behind (length fs)) Room.Full) ≡ t
+    room : (fs : List ℕ) (t : Bool) → is_some (cond t (Some (length fs)) None) ≡ t
     room fs true = refl
     room fs false = refl
 
@@ -42,9 +42,9 @@ can_alike x i = go (flat.link x i)
     go (f ∷ q) = room (flat.link x (suc i)) (flat.room x (suc i))
 
 -- a device's number, or none, as a place
-abbrev pub place : Option ℕ → Place
-place none = Place.NoDevice
-place (some i) = Place.At i
+abbrev pub place : Option ℕ → Prelude.Option ℕ
+place none = None
+place (some i) = Some i
 
 highest_up_to : (x : Flat papers) (k : ℕ) → highest k (loop_flat x) ≡ place (line.greatest (flat.can_flat x) k)
 unfolding highest
@@ -52,7 +52,7 @@ highest_up_to x zero = refl
 highest_up_to x (suc k) = rw (can_alike x k) (go (flat.can_flat x k) (highest_up_to x k))
   where
     go : (t : Bool) → highest k (loop_flat x) ≡ place (line.greatest (flat.can_flat x) k) →
-        cond t (Place.At k) (highest k (loop_flat x)) ≡ place (cond t (some k) (line.greatest (flat.can_flat x) k))
+        cond t (Some k) (highest k (loop_flat x)) ≡ place (cond t (some k) (line.greatest (flat.can_flat x) k))
     go true e = refl
     go false e = e
 

@@ -8,11 +8,10 @@ use lib.ListN.{length}
 use lib.Dec.{eqb, ltb, leb}
 use borrow.Author.Tests.{eqb-true, eqb-false, lt-ltb, le-ltb, ltb-true, ltb-false, leb-true, leb-false, le-leb}
 use borrow.Author.Tests.{eq-eqb, ne_eqb}
+use Rattle.std.specs.Prelude.{Some, None}
 use Rattle.frame.specs.Messages.{frames, kind_at, messages, first_in, first_of, codes_in, codes_of}
 use Rattle.frame.specs.Decoding.{message, idy, decoded as decoding, has_c1, offsets_of, c1s_of, frame_of}
 use Rattle.frame.specs.Coding.{bad_frame, decode_of, in_list, encode_of}
-use Rattle.frame.specs.declared.Decoded.TheVariants as decoder
-use Rattle.frame.specs.declared.Encoded.TheVariants as encoder
 use Rattle.frame.proofs.Rows.{within_kind, no_frame}
 use Rattle.frame.proofs.Laws.{idy_kind}
 use Rattle.coding.specs.Coding.{decoded_as, encoded_as}
@@ -264,7 +263,7 @@ unfolding decode_of
 decode_held f a = rw (turned_lt f frames 4 0) (go (ltb f frames))
   where
     go : (t : Bool) → Held (on_frame (decode f)) a
-        (after (decoded (decoded_as (cond t (decoder.Of (decoding f)) decoder.BadFrame))) a) (cond t 0 4)
+        (after (decoded (decoded_as (cond t (Some (decoding f)) None))) a) (cond t 0 4)
     go true = record { refused = refl; unchanged = λ z. absurd (z refl) }
     go false = record { refused = refl; unchanged = λ z. (refl, refl) }
 
@@ -296,7 +295,7 @@ unfolding encode_of
 encode_held k o c a = rw (outside k o c) (go (in_list (message k o c)))
   where
     go : (t : Bool) → Held (on_frame (encode k o c)) a
-        (after (encoded (encoded_as (cond t (encoder.Frame (frame_of (message k o c))) encoder.BadFrame))) a)
+        (after (encoded (encoded_as (cond t (Some (frame_of (message k o c))) None))) a)
         (cond (not t) 4 0)
     go true = record { refused = refl; unchanged = λ z. absurd (z refl) }
     go false = record { refused = refl; unchanged = λ z. (refl, refl) }
@@ -321,7 +320,7 @@ pub count_is : (f : ℕ) → pollAnswer f ≡ cond (eqb (kind_at f) idy) (counte
 unfolding decode_of
 count_is f = go (ltb f frames) refl
   where
-    go : (t : Bool) → ltb f frames ≡ t → counted_as (cond t (decoder.Of (decoding f)) decoder.BadFrame) ≡
+    go : (t : Bool) → ltb f frames ≡ t → counted_as (cond t (Some (decoding f)) None) ≡
         cond (eqb (kind_at f) idy) (counted (decoding f).offset) (no_count bad_frame)
     go true e = refl
     go false e = rw (no_frame f (ltb-false f frames e))

@@ -8,9 +8,9 @@ use native.Mathlib.Omega.{arith}
 use lib.ListN.{length}
 use lib.Dec.{eqb, ltb, leb}
 use borrow.Author.Tests.{ltb-true, ltb-false, ne_eqb, le-leb, lt-leb}
+use Rattle.std.specs.Prelude.{Some, None}
 use Rattle.area.specs.Loop.{Loop, loop_of, shaped, sound, judge_with}
 use Rattle.area.specs.Lookup.{oldest_of}
-use Rattle.area.specs.declared.Oldest.{Oldest}
 use Rattle.calls.specs.Outcome.{Outcome, refuse, done, After, after, after_of, call_of, call_with}
 
 -- what an outcome tells of its refusal: a refusal is no 0, and what is done answers 0
@@ -70,10 +70,10 @@ told_cond true o p j k t u = t
 told_cond false o p j k t u = u
 
 -- a link's oldest frame, and whether it holds none
-pub none_is : (fs : List ℕ) (x : ℕ) → oldest_of fs ≡ Oldest.Empty → cond (eqb (length fs) 0) 5 x ≡ 5
+pub none_is : (fs : List ℕ) (x : ℕ) → oldest_of fs ≡ None → cond (eqb (length fs) 0) 5 x ≡ 5
 none_is [] x e = refl
 none_is (f ∷ fs) x e = let z : ◌≡◌ {A = ℕ} 0 1 = cc in absurd (omega arith)
 
-pub some_is : (fs : List ℕ) (f x : ℕ) → oldest_of fs ≡ Oldest.Frame f → cond (eqb (length fs) 0) 5 x ≡ x
+pub some_is : (fs : List ℕ) (f x : ℕ) → oldest_of fs ≡ Some f → cond (eqb (length fs) 0) 5 x ≡ x
 some_is [] f x e = let z : ◌≡◌ {A = ℕ} 0 1 = cc in absurd (omega arith)
 some_is (g ∷ fs) f x e = rw (ne_eqb (suc (length fs)) 0 (λ z. omega arith))

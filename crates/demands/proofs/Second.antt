@@ -1,6 +1,6 @@
 -- Demand 2: a hop leaves the area of the loop that it leaves, which differs from the old one in one record and two
 -- links; and each other call leaves what its definition says.
-use Prim.Native.Nat.{ℕ, suc, ◌+◌, ◌<◌}
+use Prim.Native.Nat.{ℕ, suc, ◌<◌}
 use mathlib.Core.Bool.{Bool, true, false, not, cond}
 use mathlib.Core.Path.{◌≡◌, refl, sym, ap, ◌∙◌}
 use mathlib.Core.List.{List, [], ◌∷◌, ◌++◌, tail}
@@ -9,11 +9,10 @@ use lib.Dec.{eqb}
 use lib.ListN.{length, length-set}
 use lib.Seq.{get_or-set_other}
 use borrow.Author.Tests.{lt-ltb}
+use Rattle.std.specs.Prelude.{Some, None}
 use Rattle.frame.proofs.Rows.{in_order}
 use Rattle.frame.specs.Messages.{frames, kind_at}
 use Rattle.frame.specs.Decoding.{message, idy, decoded as decoding, frame_of}
-use Rattle.frame.specs.declared.Decoded.TheVariants as decoder
-use Rattle.frame.specs.declared.Encoded.TheVariants as encoder
 use Rattle.frame.specs.Coding.{bad_frame, decode_of, in_list, encode_of}
 use Rattle.frame.proofs.Laws.{decode_encode, encode_decode, kind_zero}
 use Rattle.device.specs.Take.{takes}
@@ -156,18 +155,18 @@ opened_as s a z =
     let k : (open_of a (numbers s)).answer ≡ 0 = demand_1.by_table (opens s) a ∙ z in
     ap (λ (o : After ℕ). told plain o) (whole k (open_leaves a (numbers s) k))
 
-decode_answers : (f : ℕ) → f < frames → decode_answer f ≡ decoded_as (decoder.Of (decoding f))
+decode_answers : (f : ℕ) → f < frames → decode_answer f ≡ decoded_as (Some (decoding f))
 unfolding decode_of
 decode_answers f h = rw (lt-ltb f frames h)
 
 encode_answers : (k o c : ℕ) (a : List ℕ) → due (on_frame (encode k o c)) a ≡ 0 →
-    encode_answer k o c ≡ encoded_as (encoder.Frame (frame_of (message k o c)))
+    encode_answer k o c ≡ encoded_as (Some (frame_of (message k o c)))
 unfolding encode_of
 encode_answers k o c a z = go (in_list (message k o c)) (rw (outside k o c) at z)
   where
     go : (t : Bool) → ◌≡◌ {A = ℕ} (cond (not t) 4 0) 0 →
-        encoded_as (cond t (encoder.Frame (frame_of (message k o c))) encoder.BadFrame) ≡
-        encoded_as (encoder.Frame (frame_of (message k o c)))
+        encoded_as (cond t (Some (frame_of (message k o c))) None) ≡
+        encoded_as (Some (frame_of (message k o c)))
     go true z = refl
     go false z = absurd (omega arith)
 

@@ -7,6 +7,7 @@ use native.Mathlib.Omega.{arith}
 use lib.ListN.{length, drop, length-map}
 use lib.Dec.{eqb, ltb, leb}
 use borrow.Author.Tests.{eqb-true, eqb-false}
+use Rattle.std.specs.Prelude.{Option, Some, None}
 use Rattle.frame.specs.Messages.{frames}
 use Rattle.device.specs.Choose.{choose}
 use Rattle.device.specs.Device.{is_choice, has, has_further}
@@ -20,9 +21,6 @@ use Rattle.record.specs.Record.{record_size, device_of}
 use Rattle.area.specs.Sizes.{depth, header_size}
 use Rattle.area.specs.Loop.{Loop, count_in, records_in, size, loop_of, device, link}
 use Rattle.area.specs.Lookup.{oldest_of, room_of, place_of, set_device, add}
-use Rattle.area.specs.declared.Oldest.{Oldest}
-use Rattle.area.specs.declared.Room.{Room}
-use Rattle.area.specs.declared.Place.{Place}
 use Rattle.area.proofs.Parts.{length_parts}
 use Rattle.calls.specs.Outcome.{Outcome, refuse, done}
 use Rattle.calls.specs.Calls.{at_place, of_oldest, into_room, refusal, hop_answer, sent_by, put_in, taken_from, take_in}
@@ -43,7 +41,7 @@ into_told : {A : Type 0} {get : A → ℕ} (o : Outcome A) (fs : List ℕ) → T
     Told A get (into_room o (room_of fs)) (cond (leb depth (length fs)) 6 0)
 into_told {A} {get} o fs t = rw (turned_lt (length fs) depth 6 0) (go (ltb (length fs) depth))
   where
-    go : (b : Bool) → Told A get (into_room o (cond b (Room.Behind (length fs)) Room.Full)) (cond b 0 6)
+    go : (b : Bool) → Told A get (into_room o (cond b (Some (length fs)) None)) (cond b 0 6)
     go true = t
     go false = no 6 (λ z. omega arith)
 
@@ -51,7 +49,7 @@ at_told : {A : Type 0} {get : A → ℕ} (call : ℕ → Outcome A) (l : Loop) (
     Told A get (at_place call (place_of l i)) (cond (leb (size l) i) 3 k)
 at_told {A} {get} call l i k t = rw (turned_lt i (size l) 3 k) (go (ltb i (size l)))
   where
-    go : (b : Bool) → Told A get (at_place call (cond b (Place.At i) Place.NoDevice)) (cond b k 3)
+    go : (b : Bool) → Told A get (at_place call (cond b (Some i) None)) (cond b k 3)
     go true = t
     go false = no 3 (λ z. omega arith)
 
@@ -70,10 +68,10 @@ pub take_told : (l : Loop) → Told TakeAnswer take_refusal (take_in l) (cond (e
 unfolding take_in
 take_told l = go (oldest_of (link l (size l))) refl
   where
-    go : (o : Oldest) → oldest_of (link l (size l)) ≡ o →
+    go : (o : Option ℕ) → oldest_of (link l (size l)) ≡ o →
         Told TakeAnswer take_refusal (of_oldest (taken_from l) o) (cond (eqb (length (link l (size l))) 0) 5 0)
-    go Oldest.Empty e = rw (none_is (link l (size l)) 0 e) (no 5 (λ z. omega arith))
-    go (Oldest.Frame f) e = rw (some_is (link l (size l)) f 0 e) (yes _ _ refl)
+    go None e = rw (none_is (link l (size l)) 0 e) (no 5 (λ z. omega arith))
+    go (Some f) e = rw (some_is (link l (size l)) f 0 e) (yes _ _ refl)
 
 abbrev hop_refusal : HopAnswer → ℕ
 hop_refusal r = r.refusal
@@ -89,12 +87,12 @@ pub hop_told : (i : ℕ) (l : Loop) → Told HopAnswer hop_refusal (hop_in i l)
 unfolding hop_in
 hop_told i l = at_told (hop_from l) l i _ (go (oldest_of (link l i)) refl)
   where
-    go : (o : Oldest) → oldest_of (link l i) ≡ o →
+    go : (o : Option ℕ) → oldest_of (link l i) ≡ o →
         Told HopAnswer hop_refusal (of_oldest (passes_on i l) o)
         (cond (eqb (length (link l i)) 0) 5 (cond (leb depth (length (link l (suc i)))) 6 0))
-    go Oldest.Empty e = rw (none_is (link l i) (cond (leb depth (length (link l (suc i)))) 6 0) e)
+    go None e = rw (none_is (link l i) (cond (leb depth (length (link l (suc i)))) 6 0) e)
         (no 5 (λ z. omega arith))
-    go (Oldest.Frame f) e =
+    go (Some f) e =
         rw (some_is (link l i) f (cond (leb depth (length (link l (suc i)))) 6 0) e)
         (into_told (passes i f l) (link l (suc i))
         (yes _ _ (hop_done (sent_by i f l).frame (sent_by i f l).handed)))
@@ -198,10 +196,10 @@ turned_told i h next l (done r m) n = go (eqb r.handed 1) (eqb r.event 0)
     go false true = n m
     go false false = yes _ _ refl
 
-either_told : (x : Outcome DrainAnswer) (y : ℕ → Outcome DrainAnswer) (p : Place) → Never x →
+either_told : (x : Outcome DrainAnswer) (y : ℕ → Outcome DrainAnswer) (p : Option ℕ) → Never x →
     ((i : ℕ) → Never (y i)) → Never (on_place x y p)
-either_told x y Place.NoDevice u v = u
-either_told x y (Place.At i) u v = v i
+either_told x y None u v = u
+either_told x y (Some i) u v = v i
 
 pub drain_told : (b h : ℕ) (l : Loop) → Never (drain_from b h l)
 unfolding drain_from

@@ -5,12 +5,13 @@ ghost use Rattle.std.specs.Prelude.{◌≡◌, ◌+◌, ◌-◌, ◌<◌};
 ghost use Rattle.area.specs.Loop.{judge_of, loop_of, HasDevice};
 ghost use Rattle.calls.specs.Outcome.{Is, after_of};
 ghost use Rattle.calls.specs.Drain.{no_drain, can_hop, drain_in, drain_of};
+ghost use Rattle.refusal.specs.Refusal.{number};
 
 use area::lookup::{devices_in, oldest_at, room_at};
-use area::{Oldest, Room};
 use calls::{DrainAnswer, NO_EVENT};
 use hop::hop_at;
 use judge::judge;
+use refusal::Refusal;
 
 // Why a drain stops: no hop is possible, the budget is spent, a byte was handed, a clear or trigger was reported.
 const NO_HOP_LEFT: u8 = 0;
@@ -21,12 +22,12 @@ const BYTE_HANDED: u8 = 2;
 
 const EVENT_REPORTED: u8 = 3;
 
-fn no_drain(refusal: u8) -> DrainAnswer
-    ensures { result ≡ no_drain refusal }
+fn no_drain(refusal: Refusal) -> DrainAnswer
+    ensures { result ≡ no_drain (number refusal) }
 {
     DrainAnswer {
         hops: 0,
-        refusal,
+        refusal: refusal.number(),
         reason: 0,
         device: 0,
         byte: 0,
@@ -35,17 +36,12 @@ fn no_drain(refusal: u8) -> DrainAnswer
 }
 
 // Whether device i can hop: there is a frame for it, and room for the one that it sends.
+#[tactic(auto, using(area::proofs::Areas::few_devices, calls::proofs::Turns::can_both))]
 fn can_hop(area: &[u8], i: usize) -> bool
     requires { HasDevice area.now i }
     ensures { result ≡ can_hop i (loop_of area.now) }
 {
-    let Oldest::Frame(_) = oldest_at(area, i) else {
-        return false;
-    };
-    let Room::Behind(_) = room_at(area, i + 1) else {
-        return false;
-    };
-    true
+    oldest_at(area, i).is_some() && room_at(area, i + 1).is_some()
 }
 
 // The place past all devices that a hop of device i can have set free: itself, the one before and the one behind.
@@ -114,9 +110,8 @@ fn drain_in(area: &mut [u8], budget: u64) -> DrainAnswer
 pub fn drain(area: &mut [u8], budget: u64) -> DrainAnswer
     ensures { Is (drain_of area.old budget) result area.new }
 {
-    let wrong = judge(area);
-    if wrong != 0 {
-        return no_drain(wrong);
+    match judge(area) {
+        Ok(()) => drain_in(area, budget),
+        Err(refusal) => no_drain(refusal),
     }
-    drain_in(area, budget)
 }

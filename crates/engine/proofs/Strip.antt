@@ -1,5 +1,5 @@
 -- A strip of bytes rewritten from the front, w at a time: the front grows by what was given back, and the rest stays.
-use Prim.Native.Nat.{ℕ, ◌+◌, ◌-◌, ◌≤◌}
+use Prim.Native.Nat.{ℕ, ◌+◌, ◌≤◌}
 use mathlib.Core.Path.{◌≡◌}
 use mathlib.Core.List.{List, ◌++◌, append_assoc}
 use native.Mathlib.Nat.{add-sub_cancel_left}

@@ -132,11 +132,6 @@ module _ (a t : List ℕ) (f : ℕ) where
         rw (add-sub_cancel_left (record_at i) record_size, here)
         (take_at (record_of d) (join (map record_of later)) record_size (record_wide d))
 
-    -- the part that is lent is a record
-    pub is_record : IsRecord (lent (record_at i) record_size a')
-    is_record = rw lent_here
-        (record { long = record_wide d; whole = ap record_of (record_again d (good i).fits) })
-
     module _ (b x : List ℕ) (p : Passed) (is : IsRecord b)
         (does : sent b p ≡ takes (device_of (lent (record_at i) record_size a')) f') (tells : x ≡ told_of p.handed) where
       does_here : sent b p ≡ takes d f'

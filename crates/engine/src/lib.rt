@@ -4,11 +4,16 @@
 
 ghost use Rattle.std.specs.Prelude.{◌≡◌, true, [], ◌∷◌, length};
 ghost use Rattle.frame.specs.Decoding.{decoded};
+ghost use Rattle.device.specs.Take.{takes};
+ghost use Rattle.record.specs.Record.{record_size, device_of};
+ghost use Rattle.record.specs.Written.{IsRecord};
 ghost use Rattle.area.specs.Sizes.{most_devices};
+ghost use Rattle.engine_data.specs.Passed.{sent};
 ghost use Rattle.walk.specs.Walk.{told_size, told_of, fits_with, sound_records, no_walk, walks, walk_of};
 ghost use Rattle.walk.specs.Inner.{IsWalked, Fitting};
 
 use device::Handed;
+use engine_data::Passed;
 use engine_device::take;
 use engine_reading::read;
 use engine_sound::sound;
@@ -70,6 +75,19 @@ fn read_again(message: Message, before: u16, frame: u16) -> Message
     read(frame)
 }
 
+// The device of a part that is a record.
+#[inline(always)]
+fn take_here(part: &mut [u8], message: Message, frame: u16) -> Passed
+    requires { (length part.old ≡ record_size) × (message ≡ decoded frame) }
+    ensures fact { IsRecord part.new }
+    ensures result_after { sent part.new result ≡ takes (device_of part.old) frame }
+{
+    let Some(rec) = part.as_mut_array::<RECORD>() else {
+        unreachable!()
+    };
+    take(rec, message, frame)
+}
+
 // Past every device, the first one first.
 fn past_all(records: &mut [u8], frame: u16, told: &mut [u8]) -> u16
     requires { Fitting records.old told.old × (sound_records records.old ≡ true) }
@@ -79,16 +97,14 @@ fn past_all(records: &mut [u8], frame: u16, told: &mut [u8]) -> u16
     let n = records[0] as usize;
     let mut out = frame;
     let mut message = read(frame);
-    let mut i = 0;
-    while i < n {
+    for i in 0..n {
         let at = HEADER + RECORD * i;
-        let passed = take(&mut records[at..at + RECORD], message, out);
+        let passed = take_here(&mut records[at..at + RECORD], message, out);
         message = read_again(message, out, passed.frame);
         out = passed.frame;
         let handed = passed.handed;
         let to = TOLD * i;
         tell(&mut told[to..to + TOLD], handed);
-        i += 1;
     }
     out
 }

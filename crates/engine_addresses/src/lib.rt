@@ -2,18 +2,17 @@
 // half assigned. What each of them asks for is one chain of tests.
 #![tactic(auto)]
 
-ghost use Rattle.std.specs.Prelude.{◌≡◌, length};
-ghost use Rattle.record.specs.Record.{record_size, device_of};
+ghost use Rattle.std.specs.Prelude.{◌≡◌};
+ghost use Rattle.record.specs.Record.{device_of};
 ghost use Rattle.record.specs.Sound.{address_right};
 ghost use Rattle.engine_addresses.specs.Addresses.{simple_at, extended_at};
 
 use engine_table::{
     ABILITIES, ADDRESS_NOW, AUTO_ADDRESS, CONFIGURED, EXTENDED, FIXED_ADDRESS, FIXED_SECOND,
-    FURTHER, NO_ADDRESS, RECEIVED, SECOND_NOW,
+    FURTHER, NO_ADDRESS, RECEIVED, RECORD, SECOND_NOW,
 };
 
-fn simple(rec: &[u8]) -> bool
-    requires { length rec.now ≡ record_size }
+fn simple(rec: &[u8; RECORD]) -> bool
     ensures { result ≡ simple_at (device_of rec.now) }
 {
     let configured = rec[CONFIGURED];
@@ -25,8 +24,7 @@ fn simple(rec: &[u8]) -> bool
         & (((rec[ABILITIES] & AUTO_ADDRESS != 0) & (rec[ADDRESS_NOW] < NO_ADDRESS)) & no_second)
 }
 
-fn extended(rec: &[u8]) -> bool
-    requires { length rec.now ≡ record_size }
+fn extended(rec: &[u8; RECORD]) -> bool
     ensures { result ≡ extended_at (device_of rec.now) }
 {
     let configured = rec[CONFIGURED];
@@ -44,8 +42,7 @@ fn extended(rec: &[u8]) -> bool
                 | ((rec[ADDRESS_NOW] < NO_ADDRESS) & (second % RECEIVED < NO_ADDRESS))))
 }
 
-pub fn addresses(rec: &[u8]) -> bool
-    requires { length rec.now ≡ record_size }
+pub fn addresses(rec: &[u8; RECORD]) -> bool
     ensures { result ≡ address_right (device_of rec.now) }
 {
     if rec[FURTHER] & EXTENDED != 0 {

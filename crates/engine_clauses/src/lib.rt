@@ -2,21 +2,20 @@
 // only with b" is "not a, or b".
 #![tactic(auto)]
 
-ghost use Rattle.std.specs.Prelude.{◌≡◌, length};
-ghost use Rattle.record.specs.Record.{record_size, device_of};
+ghost use Rattle.std.specs.Prelude.{◌≡◌};
+ghost use Rattle.record.specs.Record.{device_of};
 ghost use Rattle.record.specs.Sound.{in_range, poll_right, abilities_allowed};
 ghost use Rattle.engine_clauses.specs.Clauses.{roles_right};
 
 use engine_table::{
     ABILITIES, ACCESSORY_ID, ADDRESS_NOW, CHOICE, CONFIGURED, DATA_LENGTH, DEVICE_ID, EXTENDED,
     FIXED_ADDRESS, FURTHER, HALF_ASSIGNED, ID_LENGTH, LISTEN, LISTENER, MOST_DATA, MOST_ID,
-    NO_ADDRESS, NRD_SEEN, PARALLEL_POLL, POLL_ASSIGNED, POLL_BIT, POLL_STATUS, POLLED, REMOTE,
-    REMOTE_ENABLE, REMOTE_LOCKED, SEND_DATA, SENDS_ACCESSORY_ID, SERVICE, SERVICE_REQUEST, STATUS,
-    TALKER, UNADDRESS,
+    NO_ADDRESS, NRD_SEEN, PARALLEL_POLL, POLL_ASSIGNED, POLL_BIT, POLL_STATUS, POLLED, RECORD,
+    REMOTE, REMOTE_ENABLE, REMOTE_LOCKED, SEND_DATA, SENDS_ACCESSORY_ID, SERVICE, SERVICE_REQUEST,
+    STATUS, TALKER, UNADDRESS,
 };
 
-pub fn ranges(rec: &[u8]) -> bool
-    requires { length rec.now ≡ record_size }
+pub fn ranges(rec: &[u8; RECORD]) -> bool
     ensures { result ≡ in_range (device_of rec.now) }
 {
     (rec[FIXED_ADDRESS] <= NO_ADDRESS)
@@ -35,8 +34,7 @@ pub fn ranges(rec: &[u8]) -> bool
 }
 
 // 128 only with 4; 64 only with 1 and at least one of 2, 4, 8, 16.
-pub fn abilities(rec: &[u8]) -> bool
-    requires { length rec.now ≡ record_size }
+pub fn abilities(rec: &[u8; RECORD]) -> bool
     ensures { result ≡ abilities_allowed (device_of rec.now) }
 {
     let able = rec[ABILITIES];
@@ -47,8 +45,7 @@ pub fn abilities(rec: &[u8]) -> bool
 }
 
 // Listener and service only with their ability.
-pub fn roles(rec: &[u8]) -> bool
-    requires { length rec.now ≡ record_size }
+pub fn roles(rec: &[u8; RECORD]) -> bool
     ensures { result ≡ roles_right (device_of rec.now) }
 {
     let able = rec[ABILITIES];
@@ -57,8 +54,7 @@ pub fn roles(rec: &[u8]) -> bool
 }
 
 // The poll's bit is none, or 16 to 31, its status 0 or 1; both zero without the ability.
-pub fn poll(rec: &[u8]) -> bool
-    requires { length rec.now ≡ record_size }
+pub fn poll(rec: &[u8; RECORD]) -> bool
     ensures { result ≡ poll_right (device_of rec.now) }
 {
     let bit = rec[POLL_BIT];

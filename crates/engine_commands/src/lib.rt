@@ -5,19 +5,16 @@
 ghost use Rattle.std.specs.Prelude.{◌≡◌};
 ghost use Rattle.device.specs.Commands.{lad, tad, ifc, aau};
 ghost use Rattle.record.specs.Record.{device_of};
-ghost use Rattle.record.specs.Written.{IsRecord};
 
 use engine_bytes::{place, store, talk, talks};
 use engine_remote::to_remote;
 use engine_table::{
-    ABILITIES, ADDRESS_NOW, ADDRESSED, AUTO_ADDRESS, FIXED_ADDRESS, IDLE, LISTEN, LISTENER,
+    ABILITIES, ADDRESS_NOW, ADDRESSED, AUTO_ADDRESS, FIXED_ADDRESS, IDLE, LISTEN, LISTENER, RECORD,
     UNADDRESS,
 };
 
-pub fn lad(rec: &mut [u8], address: u8)
-    requires { IsRecord rec.old }
-    ensures fact { IsRecord rec.new }
-    ensures rec_after { device_of rec.new ≡ lad (device_of rec.old) address }
+pub fn lad(rec: &mut [u8; RECORD], address: u8)
+    ensures { device_of rec.new ≡ lad (device_of rec.old) address }
 {
     let able = rec[ABILITIES];
     if address != rec[ADDRESS_NOW] {
@@ -33,10 +30,8 @@ pub fn lad(rec: &mut [u8], address: u8)
     }
 }
 
-pub fn tad(rec: &mut [u8], address: u8)
-    requires { IsRecord rec.old }
-    ensures fact { IsRecord rec.new }
-    ensures rec_after { device_of rec.new ≡ tad (device_of rec.old) address }
+pub fn tad(rec: &mut [u8; RECORD], address: u8)
+    ensures { device_of rec.new ≡ tad (device_of rec.old) address }
 {
     let able = rec[ABILITIES];
     if address != rec[ADDRESS_NOW] {
@@ -55,19 +50,15 @@ pub fn tad(rec: &mut [u8], address: u8)
     talk(rec, IDLE);
 }
 
-pub fn ifc(rec: &mut [u8])
-    requires { IsRecord rec.old }
-    ensures fact { IsRecord rec.new }
-    ensures rec_after { device_of rec.new ≡ ifc (device_of rec.old) }
+pub fn ifc(rec: &mut [u8; RECORD])
+    ensures { device_of rec.new ≡ ifc (device_of rec.old) }
 {
     store(rec, LISTENER, 0);
     talk(rec, IDLE);
 }
 
-pub fn aau(rec: &mut [u8])
-    requires { IsRecord rec.old }
-    ensures fact { IsRecord rec.new }
-    ensures rec_after { device_of rec.new ≡ aau (device_of rec.old) }
+pub fn aau(rec: &mut [u8; RECORD])
+    ensures { device_of rec.new ≡ aau (device_of rec.old) }
 {
     let fixed = rec[FIXED_ADDRESS];
     if rec[ABILITIES] & AUTO_ADDRESS == 0 {

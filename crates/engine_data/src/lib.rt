@@ -7,14 +7,13 @@ ghost use Rattle.frame.specs.Decoding.{has_c1, decoded};
 ghost use Rattle.device.specs.Data.{agrees, end_bit, returned, heard, data_or_end, idy};
 ghost use Rattle.device.specs.Reply.{sends};
 ghost use Rattle.record.specs.Record.{device_of};
-ghost use Rattle.record.specs.Written.{IsRecord};
 ghost use Rattle.engine_data.specs.Passed.{sent};
 
 use device::Handed;
 use engine_poll::answer;
 use engine_reading::{END, read};
 use engine_reply::{ETE, ETO, continues, marked, marked_on, stops};
-use engine_table::{ADDRESSED, LAST_HIGH, LAST_LOW, LISTENER, NRD_SEEN, TALKER};
+use engine_table::{ADDRESSED, LAST_HIGH, LAST_LOW, LISTENER, NRD_SEEN, RECORD, TALKER};
 use frame::Message;
 
 // What goes out of a device, and what it handed over.
@@ -25,8 +24,7 @@ pub struct Passed {
 }
 
 // The last frame sent, read as the one come back was: kind, which has C2, and data bits count, and C1 does not.
-fn agrees(rec: &[u8], message: Message) -> bool
-    requires { IsRecord rec.now }
+fn agrees(rec: &[u8; RECORD], message: Message) -> bool
     ensures { result ≡ agrees message (decoded (device_of rec.now).last) }
 {
     let last = read(rec[LAST_LOW] as u16 + 256 * rec[LAST_HIGH] as u16);
@@ -34,10 +32,8 @@ fn agrees(rec: &[u8], message: Message) -> bool
 }
 
 // Its own frame come back.
-fn returned(rec: &mut [u8], message: Message) -> u16
-    requires { IsRecord rec.old }
-    ensures fact { IsRecord rec.new }
-    ensures result_after { sends (device_of rec.new) result ≡ returned (device_of rec.old) message }
+fn returned(rec: &mut [u8; RECORD], message: Message) -> u16
+    ensures { sends (device_of rec.new) result ≡ returned (device_of rec.old) message }
 {
     if agrees(rec, message) {
         if rec[NRD_SEEN] == 1 {
@@ -58,8 +54,8 @@ fn end_bit(message: Message) -> u8
 }
 
 // A listener is handed the byte, and the frame goes on.
-fn heard(rec: &[u8], message: Message, frame: u16) -> Passed
-    requires { IsRecord rec.now × (message ≡ decoded frame) × (has_c1 message.kind ≡ true) }
+fn heard(rec: &[u8; RECORD], message: Message, frame: u16) -> Passed
+    requires { (message ≡ decoded frame) × (has_c1 message.kind ≡ true) }
     ensures { sent rec.now result ≡ heard (device_of rec.now) message }
 {
     let out = marked_on(rec, message, frame);
@@ -75,10 +71,9 @@ fn heard(rec: &[u8], message: Message, frame: u16) -> Passed
     }
 }
 
-pub fn data_or_end(rec: &mut [u8], message: Message, frame: u16) -> Passed
-    requires { IsRecord rec.old × (message ≡ decoded frame) × (has_c1 message.kind ≡ true) }
-    ensures fact { IsRecord rec.new }
-    ensures result_after { sent rec.new result ≡ data_or_end (device_of rec.old) message }
+pub fn data_or_end(rec: &mut [u8; RECORD], message: Message, frame: u16) -> Passed
+    requires { (message ≡ decoded frame) × (has_c1 message.kind ≡ true) }
+    ensures { sent rec.new result ≡ data_or_end (device_of rec.old) message }
 {
     if rec[TALKER] <= ADDRESSED {
         return heard(rec, message, frame);
@@ -91,8 +86,8 @@ pub fn data_or_end(rec: &mut [u8], message: Message, frame: u16) -> Passed
 }
 
 // IDY goes on with the device's answer to the poll among its bits.
-pub fn identify(rec: &[u8], message: Message) -> u16
-    requires { IsRecord rec.now × (has_c1 message.kind ≡ true) × (message.c1 < 2) }
+pub fn identify(rec: &[u8; RECORD], message: Message) -> u16
+    requires { (has_c1 message.kind ≡ true) × (message.c1 < 2) }
     ensures { sends (device_of rec.now) result ≡ idy (device_of rec.now) message }
 {
     let bits = answer(rec);

@@ -5,7 +5,6 @@ ghost use Rattle.std.specs.Prelude.{◌≡◌};
 ghost use Rattle.frame.specs.Decoding.{decoded};
 ghost use Rattle.device.specs.Take.{takes_extended, takes};
 ghost use Rattle.record.specs.Record.{device_of};
-ghost use Rattle.record.specs.Written.{IsRecord};
 ghost use Rattle.engine_data.specs.Passed.{sent};
 ghost use Rattle.engine_data.specs.declared.Passed.{Passed};
 ghost use Rattle.device.specs.declared.Handed.TheVariants.{Nothing};
@@ -15,7 +14,7 @@ use engine_data::Passed;
 use engine_extended::{aau, aep, aes, heed, lad, sad, tad};
 use engine_reading as kinds;
 use engine_simple::simple;
-use engine_table::{EXTENDED, FURTHER};
+use engine_table::{EXTENDED, FURTHER, RECORD};
 use frame::Message;
 
 // The frame goes out, and nothing is handed over.
@@ -30,10 +29,9 @@ fn passes(frame: u16) -> Passed
 
 // What an extended device does with a frame that was read: its own rules, or those of a simple one once the
 // flags are cleared where a command does so.
-fn extended(rec: &mut [u8], message: Message, frame: u16) -> Passed
-    requires { IsRecord rec.old × (message ≡ decoded frame) }
-    ensures fact { IsRecord rec.new }
-    ensures result_after { sent rec.new result ≡ takes_extended (device_of rec.old) frame }
+fn extended(rec: &mut [u8; RECORD], message: Message, frame: u16) -> Passed
+    requires { message ≡ decoded frame }
+    ensures { sent rec.new result ≡ takes_extended (device_of rec.old) frame }
 {
     let kind = message.kind;
     let offset = message.offset;
@@ -68,10 +66,9 @@ fn extended(rec: &mut [u8], message: Message, frame: u16) -> Passed
 }
 
 // What a device does with a frame that was read, by its variant.
-pub fn take(rec: &mut [u8], message: Message, frame: u16) -> Passed
-    requires { IsRecord rec.old × (message ≡ decoded frame) }
-    ensures fact { IsRecord rec.new }
-    ensures result_after { sent rec.new result ≡ takes (device_of rec.old) frame }
+pub fn take(rec: &mut [u8; RECORD], message: Message, frame: u16) -> Passed
+    requires { message ≡ decoded frame }
+    ensures { sent rec.new result ≡ takes (device_of rec.old) frame }
 {
     if rec[FURTHER] & EXTENDED == 0 {
         return simple(rec, message, frame);

@@ -8,21 +8,18 @@ ghost use Rattle.device.specs.Reply.{sends};
 ghost use Rattle.device.specs.Extended.{heeding, extended_lad, extended_tad, sad_listens, sad_talks, sad, extended_aau};
 ghost use Rattle.device.specs.Extended.{aes, aep};
 ghost use Rattle.record.specs.Record.{device_of};
-ghost use Rattle.record.specs.Written.{IsRecord};
 
 use engine_bytes::{flag, place, store, take_second, talk, talks};
 use engine_reading::{DDT, NUL};
 use engine_remote::to_remote;
 use engine_table::{
     ABILITIES, ADDRESS_NOW, ADDRESSED, CONFIGURED, FIXED_ADDRESS, FIXED_SECOND, HALF_ASSIGNED,
-    IDLE, LISTEN, LISTENER, NO_ADDRESS, RECEIVED, SECOND_NOW, UNADDRESS,
+    IDLE, LISTEN, LISTENER, NO_ADDRESS, RECEIVED, RECORD, SECOND_NOW, UNADDRESS,
 };
 
 // A primary is received; listener and talker wait for the second address.
-pub fn lad(rec: &mut [u8], address: u8)
-    requires { IsRecord rec.old }
-    ensures fact { IsRecord rec.new }
-    ensures rec_after { device_of rec.new ≡ extended_lad (device_of rec.old) address }
+pub fn lad(rec: &mut [u8; RECORD], address: u8)
+    ensures { device_of rec.new ≡ extended_lad (device_of rec.old) address }
 {
     if address != rec[ADDRESS_NOW] {
         flag(rec, 0, 0);
@@ -36,10 +33,8 @@ pub fn lad(rec: &mut [u8], address: u8)
     flag(rec, RECEIVED, 0);
 }
 
-pub fn tad(rec: &mut [u8], address: u8)
-    requires { IsRecord rec.old }
-    ensures fact { IsRecord rec.new }
-    ensures rec_after { device_of rec.new ≡ extended_tad (device_of rec.old) address }
+pub fn tad(rec: &mut [u8; RECORD], address: u8)
+    ensures { device_of rec.new ≡ extended_tad (device_of rec.old) address }
 {
     if address != rec[ADDRESS_NOW] {
         flag(rec, 0, 0);
@@ -55,10 +50,8 @@ pub fn tad(rec: &mut [u8], address: u8)
 }
 
 // Own SAD after the listen primary.
-fn sad_listens(rec: &mut [u8])
-    requires { IsRecord rec.old }
-    ensures fact { IsRecord rec.new }
-    ensures rec_after { device_of rec.new ≡ sad_listens (device_of rec.old) }
+fn sad_listens(rec: &mut [u8; RECORD])
+    ensures { device_of rec.new ≡ sad_listens (device_of rec.old) }
 {
     let able = rec[ABILITIES];
     if rec[FIXED_SECOND] < RECEIVED {
@@ -74,10 +67,8 @@ fn sad_listens(rec: &mut [u8])
 }
 
 // Own SAD after the talk primary.
-fn sad_talks(rec: &mut [u8])
-    requires { IsRecord rec.old }
-    ensures fact { IsRecord rec.new }
-    ensures rec_after { device_of rec.new ≡ sad_talks (device_of rec.old) }
+fn sad_talks(rec: &mut [u8; RECORD])
+    ensures { device_of rec.new ≡ sad_talks (device_of rec.old) }
 {
     let able = rec[ABILITIES];
     if rec[SECOND_NOW] < RECEIVED {
@@ -93,10 +84,8 @@ fn sad_talks(rec: &mut [u8])
     }
 }
 
-pub fn sad(rec: &mut [u8], address: u8)
-    requires { IsRecord rec.old }
-    ensures fact { IsRecord rec.new }
-    ensures rec_after { device_of rec.new ≡ sad (device_of rec.old) address }
+pub fn sad(rec: &mut [u8; RECORD], address: u8)
+    ensures { device_of rec.new ≡ sad (device_of rec.old) address }
 {
     let second = rec[SECOND_NOW];
     if address == second % RECEIVED {
@@ -110,10 +99,8 @@ pub fn sad(rec: &mut [u8], address: u8)
     }
 }
 
-pub fn aau(rec: &mut [u8])
-    requires { IsRecord rec.old }
-    ensures fact { IsRecord rec.new }
-    ensures rec_after { device_of rec.new ≡ extended_aau (device_of rec.old) }
+pub fn aau(rec: &mut [u8; RECORD])
+    ensures { device_of rec.new ≡ extended_aau (device_of rec.old) }
 {
     let fixed = rec[FIXED_ADDRESS];
     let second = rec[FIXED_SECOND] % RECEIVED;
@@ -123,10 +110,9 @@ pub fn aau(rec: &mut [u8])
 }
 
 // A device that is configured or half assigned leaves AES alone.
-pub fn aes(rec: &mut [u8], frame: u16, address: u8) -> u16
-    requires { IsRecord rec.old × (frame < 65535) × (address < received) }
-    ensures fact { IsRecord rec.new }
-    ensures result_after { sends (device_of rec.new) result ≡ aes (device_of rec.old) frame address }
+pub fn aes(rec: &mut [u8; RECORD], frame: u16, address: u8) -> u16
+    requires { (frame < 65535) × (address < received) }
+    ensures { sends (device_of rec.new) result ≡ aes (device_of rec.old) frame address }
 {
     let primary = rec[ADDRESS_NOW];
     if rec[CONFIGURED] != 0 {
@@ -137,10 +123,8 @@ pub fn aes(rec: &mut [u8], frame: u16, address: u8) -> u16
     frame + 1
 }
 
-pub fn aep(rec: &mut [u8], address: u8)
-    requires { IsRecord rec.old }
-    ensures fact { IsRecord rec.new }
-    ensures rec_after { device_of rec.new ≡ aep (device_of rec.old) address }
+pub fn aep(rec: &mut [u8; RECORD], address: u8)
+    ensures { device_of rec.new ≡ aep (device_of rec.old) address }
 {
     if rec[CONFIGURED] != HALF_ASSIGNED {
         return;
@@ -152,10 +136,8 @@ pub fn aep(rec: &mut [u8], address: u8)
 }
 
 // A command that is none of these clears both flags.
-pub fn heed(rec: &mut [u8], kind: u8)
-    requires { IsRecord rec.old }
-    ensures fact { IsRecord rec.new }
-    ensures rec_after { device_of rec.new ≡ heeding (device_of rec.old) kind }
+pub fn heed(rec: &mut [u8; RECORD], kind: u8)
+    ensures { device_of rec.new ≡ heeding (device_of rec.old) kind }
 {
     if (NUL <= kind) & (kind <= DDT) {
         flag(rec, 0, 0);

@@ -5,20 +5,17 @@ ghost use Rattle.std.specs.Prelude.{◌≡◌, ◌<◌};
 ghost use Rattle.device.specs.Ready.{requested, polls, sst, nrd, aad};
 ghost use Rattle.device.specs.Reply.{sends};
 ghost use Rattle.record.specs.Record.{device_of};
-ghost use Rattle.record.specs.Written.{IsRecord};
 
 use engine_bytes::{place, store, talk};
 use engine_reply::continues;
 use engine_table::{
-    ABILITIES, ADDRESSED, ASKING, AUTO_ADDRESS, CONFIGURED, NRD_SEEN, POLLED, SENDS_STATUS,
+    ABILITIES, ADDRESSED, ASKING, AUTO_ADDRESS, CONFIGURED, NRD_SEEN, POLLED, RECORD, SENDS_STATUS,
     SERVICE, STATUS, TALKER,
 };
 
 // SDA, SDI, SAI: the first byte of the reply, in the talker state that it has.
-pub fn requested(rec: &mut [u8], frame: u16, ability: u8, talker: u8) -> u16
-    requires { IsRecord rec.old }
-    ensures fact { IsRecord rec.new }
-    ensures result_after { sends (device_of rec.new) result ≡
+pub fn requested(rec: &mut [u8; RECORD], frame: u16, ability: u8, talker: u8) -> u16
+    ensures { sends (device_of rec.new) result ≡
         requested (device_of rec.old) frame ability talker }
 {
     if rec[TALKER] != ADDRESSED {
@@ -32,10 +29,8 @@ pub fn requested(rec: &mut [u8], frame: u16, ability: u8, talker: u8) -> u16
 }
 
 // Service 1 becomes 2.
-fn polls(rec: &mut [u8])
-    requires { IsRecord rec.old }
-    ensures fact { IsRecord rec.new }
-    ensures rec_after { device_of rec.new ≡ polls (device_of rec.old) }
+fn polls(rec: &mut [u8; RECORD])
+    ensures { device_of rec.new ≡ polls (device_of rec.old) }
 {
     if rec[SERVICE] != ASKING {
         return;
@@ -44,10 +39,8 @@ fn polls(rec: &mut [u8])
 }
 
 // The poll comes first, so that the status goes out without C1 of this device's.
-pub fn sst(rec: &mut [u8], frame: u16) -> u16
-    requires { IsRecord rec.old }
-    ensures fact { IsRecord rec.new }
-    ensures result_after { sends (device_of rec.new) result ≡ sst (device_of rec.old) frame }
+pub fn sst(rec: &mut [u8; RECORD], frame: u16) -> u16
+    ensures { sends (device_of rec.new) result ≡ sst (device_of rec.old) frame }
 {
     if rec[TALKER] != ADDRESSED {
         return frame;
@@ -60,10 +53,8 @@ pub fn sst(rec: &mut [u8], frame: u16) -> u16
     continues(rec)
 }
 
-pub fn nrd(rec: &mut [u8])
-    requires { IsRecord rec.old }
-    ensures fact { IsRecord rec.new }
-    ensures rec_after { device_of rec.new ≡ nrd (device_of rec.old) }
+pub fn nrd(rec: &mut [u8; RECORD])
+    ensures { device_of rec.new ≡ nrd (device_of rec.old) }
 {
     if rec[TALKER] <= ADDRESSED {
         return;
@@ -72,10 +63,9 @@ pub fn nrd(rec: &mut [u8])
 }
 
 // A configured device leaves AAD alone: else two devices would have one address.
-pub fn aad(rec: &mut [u8], frame: u16, address: u8) -> u16
-    requires { IsRecord rec.old × (frame < 65535) }
-    ensures fact { IsRecord rec.new }
-    ensures result_after { sends (device_of rec.new) result ≡ aad (device_of rec.old) frame address }
+pub fn aad(rec: &mut [u8; RECORD], frame: u16, address: u8) -> u16
+    requires { frame < 65535 }
+    ensures { sends (device_of rec.new) result ≡ aad (device_of rec.old) frame address }
 {
     if rec[CONFIGURED] != 0 {
         return frame;

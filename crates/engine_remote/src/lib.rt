@@ -5,11 +5,10 @@
 ghost use Rattle.std.specs.Prelude.{◌≡◌};
 ghost use Rattle.device.specs.Remote.{ren, nre, to_remote, llo, gtl};
 ghost use Rattle.record.specs.Record.{device_of};
-ghost use Rattle.record.specs.Written.{IsRecord};
 ghost use Rattle.engine_remote.specs.Bits.{bits_moved};
 
 use engine_bytes::store;
-use engine_table::{LISTENER, REMOTE, REMOTE_ENABLE};
+use engine_table::{LISTENER, RECORD, REMOTE, REMOTE_ENABLE};
 
 const IS_REMOTE: u8 = 1;
 
@@ -20,28 +19,22 @@ const BOTH: u8 = IS_REMOTE + IS_LOCKED;
 // The states are the numbers below this.
 const STATES: u8 = 4;
 
-pub fn ren(rec: &mut [u8])
-    requires { IsRecord rec.old }
-    ensures fact { IsRecord rec.new }
-    ensures rec_after { device_of rec.new ≡ ren (device_of rec.old) }
+pub fn ren(rec: &mut [u8; RECORD])
+    ensures { device_of rec.new ≡ ren (device_of rec.old) }
 {
     store(rec, REMOTE_ENABLE, 1);
 }
 
-pub fn nre(rec: &mut [u8])
-    requires { IsRecord rec.old }
-    ensures fact { IsRecord rec.new }
-    ensures rec_after { device_of rec.new ≡ nre (device_of rec.old) }
+pub fn nre(rec: &mut [u8; RECORD])
+    ensures { device_of rec.new ≡ nre (device_of rec.old) }
 {
     store(rec, REMOTE, 0);
     store(rec, REMOTE_ENABLE, 0);
 }
 
 // A state's bits: those of `kept` stay, and those of `set` are set. A number that is no state stays.
-fn bits(rec: &mut [u8], kept: u8, set: u8)
-    requires { IsRecord rec.old }
-    ensures fact { IsRecord rec.new }
-    ensures rec_after { device_of rec.new ≡ bits_moved (device_of rec.old) kept set }
+fn bits(rec: &mut [u8; RECORD], kept: u8, set: u8)
+    ensures { device_of rec.new ≡ bits_moved (device_of rec.old) kept set }
 {
     let state = rec[REMOTE];
     if state < STATES {
@@ -50,20 +43,16 @@ fn bits(rec: &mut [u8], kept: u8, set: u8)
 }
 
 // What the device's own LAD does besides, while enabled.
-pub fn to_remote(rec: &mut [u8])
-    requires { IsRecord rec.old }
-    ensures fact { IsRecord rec.new }
-    ensures rec_after { device_of rec.new ≡ to_remote (device_of rec.old) }
+pub fn to_remote(rec: &mut [u8; RECORD])
+    ensures { device_of rec.new ≡ to_remote (device_of rec.old) }
 {
     if rec[REMOTE_ENABLE] == 1 {
         bits(rec, BOTH, IS_REMOTE);
     }
 }
 
-pub fn llo(rec: &mut [u8])
-    requires { IsRecord rec.old }
-    ensures fact { IsRecord rec.new }
-    ensures rec_after { device_of rec.new ≡ llo (device_of rec.old) }
+pub fn llo(rec: &mut [u8; RECORD])
+    ensures { device_of rec.new ≡ llo (device_of rec.old) }
 {
     if rec[REMOTE_ENABLE] == 1 {
         bits(rec, BOTH, IS_LOCKED);
@@ -71,10 +60,8 @@ pub fn llo(rec: &mut [u8])
 }
 
 // It works while not enabled too.
-pub fn gtl(rec: &mut [u8])
-    requires { IsRecord rec.old }
-    ensures fact { IsRecord rec.new }
-    ensures rec_after { device_of rec.new ≡ gtl (device_of rec.old) }
+pub fn gtl(rec: &mut [u8; RECORD])
+    ensures { device_of rec.new ≡ gtl (device_of rec.old) }
 {
     if rec[LISTENER] == 1 {
         bits(rec, IS_LOCKED, 0);

@@ -9,13 +9,12 @@ ghost use Rattle.device.specs.Change.{loadlength, sent, replied};
 ghost use Rattle.device.specs.Reply.{sends, marked, stops, data_frame, other_byte, other_length, sends_data, sends_other};
 ghost use Rattle.device.specs.Reply.{continues};
 ghost use Rattle.record.specs.Record.{device_of};
-ghost use Rattle.record.specs.Written.{IsRecord};
 
 use engine_bytes::{count, talk};
 use engine_reading::{DAB, END, write};
 use engine_table::{
     ACCESSORY_BYTE, ADDRESSED, ASKING, CHOICE, DATA, DATA_LENGTH, DATA_SENT, ID, ID_LENGTH,
-    MOST_DATA, MOST_ID, REPLY_SENT, SENDS_DATA, SENDS_DEVICE_ID, SENDS_STATUS, SERVICE,
+    MOST_DATA, MOST_ID, RECORD, REPLY_SENT, SENDS_DATA, SENDS_DEVICE_ID, SENDS_STATUS, SERVICE,
     STATUS_BYTE, TALKER,
 };
 use frame::Message;
@@ -26,8 +25,8 @@ pub const ETO: u16 = 0x540;
 pub const ETE: u16 = 0x541;
 
 // The frame of a DAB, END or IDY as it goes out: C1 is set where service is asked for, and never cleared.
-pub fn marked(rec: &[u8], message: Message) -> u16
-    requires { IsRecord rec.now × (has_c1 message.kind ≡ true) × (message.c1 < 2) }
+pub fn marked(rec: &[u8; RECORD], message: Message) -> u16
+    requires { (has_c1 message.kind ≡ true) × (message.c1 < 2) }
     ensures { result ≡ marked (device_of rec.now) message }
 {
     if rec[SERVICE] == ASKING {
@@ -41,8 +40,8 @@ pub fn marked(rec: &[u8], message: Message) -> u16
 }
 
 // The same of a frame that was read: without service asked for it goes on as it came.
-pub fn marked_on(rec: &[u8], message: Message, frame: u16) -> u16
-    requires { IsRecord rec.now × (message ≡ decoded frame) × (has_c1 message.kind ≡ true) }
+pub fn marked_on(rec: &[u8; RECORD], message: Message, frame: u16) -> u16
+    requires { (message ≡ decoded frame) × (has_c1 message.kind ≡ true) }
     ensures { result ≡ marked (device_of rec.now) message }
 {
     if rec[SERVICE] != ASKING {
@@ -56,8 +55,7 @@ pub fn marked_on(rec: &[u8], message: Message, frame: u16) -> u16
 }
 
 // The byte of the data, and of the ID, that comes next; 0 past their places.
-fn data_next(rec: &[u8]) -> u8
-    requires { IsRecord rec.now }
+fn data_next(rec: &[u8; RECORD]) -> u8
     ensures { result ≡ get_or (device_of rec.now).load (device_of rec.now).sent 0 }
 {
     let at = rec[DATA_SENT];
@@ -67,8 +65,7 @@ fn data_next(rec: &[u8]) -> u8
     0
 }
 
-fn id_next(rec: &[u8]) -> u8
-    requires { IsRecord rec.now }
+fn id_next(rec: &[u8; RECORD]) -> u8
     ensures { result ≡ get_or (device_of rec.now).id (device_of rec.now).replied 0 }
 {
     let at = rec[REPLY_SENT];
@@ -79,8 +76,8 @@ fn id_next(rec: &[u8]) -> u8
 }
 
 // END where the byte is the last and END was chosen.
-fn data_frame(rec: &[u8]) -> u16
-    requires { IsRecord rec.now × (get_or rec.now sent 0 < get_or rec.now loadlength 0) }
+fn data_frame(rec: &[u8; RECORD]) -> u16
+    requires { get_or rec.now sent 0 < get_or rec.now loadlength 0 }
     ensures { result ≡ data_frame (device_of rec.now) }
 {
     let offset = data_next(rec);
@@ -105,8 +102,7 @@ fn data_frame(rec: &[u8]) -> u16
 }
 
 // The next byte of another reply, and how many bytes it has.
-fn other_byte(rec: &[u8]) -> u8
-    requires { IsRecord rec.now }
+fn other_byte(rec: &[u8; RECORD]) -> u8
     ensures { result ≡ other_byte (device_of rec.now) }
 {
     if rec[TALKER] == SENDS_STATUS {
@@ -118,8 +114,7 @@ fn other_byte(rec: &[u8]) -> u8
     rec[ACCESSORY_BYTE]
 }
 
-fn other_length(rec: &[u8]) -> u8
-    requires { IsRecord rec.now }
+fn other_length(rec: &[u8; RECORD]) -> u8
     ensures { result ≡ other_length (device_of rec.now) }
 {
     if rec[TALKER] == SENDS_DEVICE_ID {
@@ -129,19 +124,16 @@ fn other_length(rec: &[u8]) -> u8
 }
 
 // To state 1 with the answer, ETO or ETE.
-pub fn stops(rec: &mut [u8], answer: u16) -> u16
-    requires { IsRecord rec.old }
-    ensures fact { IsRecord rec.new }
-    ensures result_after { sends (device_of rec.new) result ≡ stops (device_of rec.old) answer }
+pub fn stops(rec: &mut [u8; RECORD], answer: u16) -> u16
+    ensures { sends (device_of rec.new) result ≡ stops (device_of rec.old) answer }
 {
     talk(rec, ADDRESSED);
     answer
 }
 
-fn sends_data(rec: &mut [u8]) -> u16
-    requires { IsRecord rec.old × (get_or rec.old sent 0 < get_or rec.old loadlength 0) }
-    ensures fact { IsRecord rec.new }
-    ensures result_after { sends (device_of rec.new) result ≡ sends_data (device_of rec.old) }
+fn sends_data(rec: &mut [u8; RECORD]) -> u16
+    requires { get_or rec.old sent 0 < get_or rec.old loadlength 0 }
+    ensures { sends (device_of rec.new) result ≡ sends_data (device_of rec.old) }
 {
     let frame = data_frame(rec);
     let sent = rec[DATA_SENT];
@@ -150,10 +142,9 @@ fn sends_data(rec: &mut [u8]) -> u16
     frame
 }
 
-fn sends_other(rec: &mut [u8]) -> u16
-    requires { IsRecord rec.old × (get_or rec.old replied 0 < 255) }
-    ensures fact { IsRecord rec.new }
-    ensures result_after { sends (device_of rec.new) result ≡ sends_other (device_of rec.old) }
+fn sends_other(rec: &mut [u8; RECORD]) -> u16
+    requires { get_or rec.old replied 0 < 255 }
+    ensures { sends (device_of rec.new) result ≡ sends_other (device_of rec.old) }
 {
     let offset = other_byte(rec);
     let frame = marked(
@@ -171,10 +162,8 @@ fn sends_other(rec: &mut [u8]) -> u16
 }
 
 // The next byte of the reply goes out; ETO if nothing is left.
-pub fn continues(rec: &mut [u8]) -> u16
-    requires { IsRecord rec.old }
-    ensures fact { IsRecord rec.new }
-    ensures result_after { sends (device_of rec.new) result ≡ continues (device_of rec.old) }
+pub fn continues(rec: &mut [u8; RECORD]) -> u16
+    ensures { sends (device_of rec.new) result ≡ continues (device_of rec.old) }
 {
     if rec[TALKER] == SENDS_DATA {
         if rec[DATA_SENT] < rec[DATA_LENGTH] {

@@ -8,7 +8,6 @@ ghost use Rattle.device.specs.Clear.{to_listener};
 ghost use Rattle.device.specs.Reply.{sends};
 ghost use Rattle.device.specs.Take.{takes_simple};
 ghost use Rattle.record.specs.Record.{device_of};
-ghost use Rattle.record.specs.Written.{IsRecord};
 ghost use Rattle.engine_data.specs.Passed.{sent};
 ghost use Rattle.engine_simple.specs.Read.{Commanded, Obeyed, Readied};
 
@@ -21,16 +20,15 @@ use engine_reading as kinds;
 use engine_ready::{aad, nrd, requested, sst};
 use engine_remote::{gtl, llo, nre, ren};
 use engine_table::{
-    ACCESSORY_ID, DEVICE_ID, IDLE, LISTENER, SEND_DATA, SENDS_ACCESSORY_ID, SENDS_DATA,
+    ACCESSORY_ID, DEVICE_ID, IDLE, LISTENER, RECORD, SEND_DATA, SENDS_ACCESSORY_ID, SENDS_DATA,
     SENDS_DEVICE_ID,
 };
 use frame::Message;
 
 // A command that reports nothing goes on, and this is the record after it.
-fn obey(rec: &mut [u8], message: Message, frame: u16)
-    requires { IsRecord rec.old × Obeyed message frame }
-    ensures fact { IsRecord rec.new }
-    ensures frame_after { sends (device_of rec.new) frame ≡ takes_simple (device_of rec.old) frame }
+fn obey(rec: &mut [u8; RECORD], message: Message, frame: u16)
+    requires { Obeyed message frame }
+    ensures { sends (device_of rec.new) frame ≡ takes_simple (device_of rec.old) frame }
 {
     let kind = message.kind;
     let offset = message.offset;
@@ -53,8 +51,7 @@ fn obey(rec: &mut [u8], message: Message, frame: u16)
 }
 
 // A clear or a trigger: the frame goes on, and the event is reported if the device listens.
-fn to_listener(rec: &[u8], frame: u16, event: Handed) -> Passed
-    requires { IsRecord rec.now }
+fn to_listener(rec: &[u8; RECORD], frame: u16, event: Handed) -> Passed
     ensures { sent rec.now result ≡ to_listener (device_of rec.now) frame event }
 {
     if rec[LISTENER] != 1 {
@@ -69,10 +66,9 @@ fn to_listener(rec: &[u8], frame: u16, event: Handed) -> Passed
     }
 }
 
-fn command(rec: &mut [u8], message: Message, frame: u16) -> Passed
-    requires { IsRecord rec.old × Commanded message frame }
-    ensures fact { IsRecord rec.new }
-    ensures result_after { sent rec.new result ≡ takes_simple (device_of rec.old) frame }
+fn command(rec: &mut [u8; RECORD], message: Message, frame: u16) -> Passed
+    requires { Commanded message frame }
+    ensures { sent rec.new result ≡ takes_simple (device_of rec.old) frame }
 {
     let kind = message.kind;
     match kind {
@@ -93,10 +89,9 @@ fn command(rec: &mut [u8], message: Message, frame: u16) -> Passed
 }
 
 // Ready frames and identify hand nothing over.
-fn ready(rec: &mut [u8], message: Message, frame: u16) -> u16
-    requires { IsRecord rec.old × Readied message frame }
-    ensures fact { IsRecord rec.new }
-    ensures result_after { sends (device_of rec.new) result ≡ takes_simple (device_of rec.old) frame }
+fn ready(rec: &mut [u8; RECORD], message: Message, frame: u16) -> u16
+    requires { Readied message frame }
+    ensures { sends (device_of rec.new) result ≡ takes_simple (device_of rec.old) frame }
 {
     let kind = message.kind;
     match kind {
@@ -117,10 +112,9 @@ fn ready(rec: &mut [u8], message: Message, frame: u16) -> u16
 // What a simple device does with a frame that was read. In place where it is called: a call here would be the deepest
 // of a walk, and the walk is held to a limit of stack.
 #[inline(always)]
-pub fn simple(rec: &mut [u8], message: Message, frame: u16) -> Passed
-    requires { IsRecord rec.old × (message ≡ decoded frame) }
-    ensures fact { IsRecord rec.new }
-    ensures result_after { sent rec.new result ≡ takes_simple (device_of rec.old) frame }
+pub fn simple(rec: &mut [u8; RECORD], message: Message, frame: u16) -> Passed
+    requires { message ≡ decoded frame }
+    ensures { sent rec.new result ≡ takes_simple (device_of rec.old) frame }
 {
     let kind = message.kind;
     if kinds::DDT < kind {

@@ -3,7 +3,7 @@
 #![tactic(auto)]
 
 ghost use Rattle.std.specs.Prelude.{◌≡◌, length};
-ghost use Rattle.record.specs.Record.{record_size, device_of};
+ghost use Rattle.record.specs.Record.{device_of};
 ghost use Rattle.record.specs.Sound.{zero_past, sound_record};
 ghost use Rattle.area.specs.Sizes.{record_at};
 ghost use Rattle.area.specs.Loop.{count_in};
@@ -19,8 +19,7 @@ use engine_talker::talker;
 use engine_zeros::zero_past;
 
 // Most devices have neither ID nor data: then both places are one stretch of zeros.
-fn zeros_behind(rec: &[u8]) -> bool
-    requires { length rec.now ≡ record_size }
+fn zeros_behind(rec: &[u8; RECORD]) -> bool
     ensures { result ≡ zero_past (device_of rec.now) }
 {
     let id = rec[ID_LENGTH];
@@ -32,8 +31,7 @@ fn zeros_behind(rec: &[u8]) -> bool
 }
 
 // What a device is able to do, and where it is found.
-fn place(rec: &[u8]) -> bool
-    requires { length rec.now ≡ record_size }
+fn place(rec: &[u8; RECORD]) -> bool
     ensures { result ≡ place_right (device_of rec.now) }
 {
     if abilities(rec) {
@@ -43,8 +41,7 @@ fn place(rec: &[u8]) -> bool
 }
 
 // What it does now.
-fn doing(rec: &[u8]) -> bool
-    requires { length rec.now ≡ record_size }
+fn doing(rec: &[u8; RECORD]) -> bool
     ensures { result ≡ doing_right (device_of rec.now) }
 {
     if roles(rec) {
@@ -56,8 +53,7 @@ fn doing(rec: &[u8]) -> bool
     false
 }
 
-fn record_sound(rec: &[u8]) -> bool
-    requires { length rec.now ≡ record_size }
+fn record_sound(rec: &[u8; RECORD]) -> bool
     ensures { result ≡ sound_record rec.now }
 {
     if ranges(rec) {
@@ -77,13 +73,14 @@ pub fn sound(records: &[u8]) -> bool
     requires { length records.now ≡ record_at (count_in records.now) }
     ensures { result ≡ sound_records records.now }
 {
-    let n = records[0] as usize;
-    let mut right = zero_past(records, 1, HEADER_ZEROS, 0);
-    let mut i = 0;
-    while right & (i < n) {
-        let at = HEADER + RECORD * i;
-        right = record_sound(&records[at..at + RECORD]);
-        i += 1;
+    if !zero_past(records, 1, HEADER_ZEROS, 0) {
+        return false;
     }
-    right
+    let (each, _) = records[HEADER..].as_chunks::<RECORD>();
+    for rec in each {
+        if !record_sound(rec) {
+            return false;
+        }
+    }
+    true
 }

@@ -2,29 +2,28 @@
 // data, one for the replies of states 3 to 5.
 #![tactic(auto)]
 
-ghost use Rattle.std.specs.Prelude.{◌≡◌, ◌≤◌, ◌<◌, length, get_or};
+ghost use Rattle.std.specs.Prelude.{◌≡◌, ◌≤◌, ◌<◌, get_or};
 ghost use Rattle.device.specs.Device.{addressed, sending_data};
 ghost use Rattle.device.specs.Change.{talker};
-ghost use Rattle.record.specs.Record.{record_size, device_of};
+ghost use Rattle.record.specs.Record.{device_of};
 ghost use Rattle.record.specs.Sound.{talker_right};
 
 use engine_table::{
     ABILITIES, ACCESSORY_ID, ADDRESSED, DATA_LENGTH, DATA_SENT, DEVICE_ID, ID_LENGTH, LAST_HIGH,
-    LAST_LOW, NRD_SEEN, PAST_LAST, REPLY_SENT, SEND_DATA, SENDS_ACCESSORY_ID, SENDS_DATA,
+    LAST_LOW, NRD_SEEN, PAST_LAST, RECORD, REPLY_SENT, SEND_DATA, SENDS_ACCESSORY_ID, SENDS_DATA,
     SENDS_DEVICE_ID, SENDS_STATUS, STATUS, TALKER,
 };
 
 // The last frame sent.
-fn last(rec: &[u8]) -> u16
-    requires { length rec.now ≡ record_size }
+fn last(rec: &[u8; RECORD]) -> u16
     ensures { result ≡ (device_of rec.now).last }
 {
     rec[LAST_LOW] as u16 + 256 * (rec[LAST_HIGH] as u16)
 }
 
 // Idle or addressed: addressed with something to send, and no reply, NRD or last frame.
-fn quiet(rec: &[u8]) -> bool
-    requires { (length rec.now ≡ record_size) × (get_or rec.now talker 0 ≤ addressed) }
+fn quiet(rec: &[u8; RECORD]) -> bool
+    requires { get_or rec.now talker 0 ≤ addressed }
     ensures { result ≡ talker_right (device_of rec.now) }
 {
     let able = rec[ABILITIES];
@@ -37,8 +36,8 @@ fn quiet(rec: &[u8]) -> bool
 }
 
 // Sending data, of which some is sent, and no reply.
-fn sends_data(rec: &[u8]) -> bool
-    requires { (length rec.now ≡ record_size) × (get_or rec.now talker 0 ≡ sending_data) }
+fn sends_data(rec: &[u8; RECORD]) -> bool
+    requires { get_or rec.now talker 0 ≡ sending_data }
     ensures { result ≡ talker_right (device_of rec.now) }
 {
     let able = rec[ABILITIES];
@@ -50,8 +49,8 @@ fn sends_data(rec: &[u8]) -> bool
 }
 
 // Sending a reply with its ability, and as far as its state has it.
-fn replies(rec: &[u8]) -> bool
-    requires { (length rec.now ≡ record_size) × (sending_data < get_or rec.now talker 0) }
+fn replies(rec: &[u8; RECORD]) -> bool
+    requires { sending_data < get_or rec.now talker 0 }
     ensures { result ≡ talker_right (device_of rec.now) }
 {
     let able = rec[ABILITIES];
@@ -69,8 +68,7 @@ fn replies(rec: &[u8]) -> bool
                     & (last(rec) < PAST_LAST))))
 }
 
-pub fn talker(rec: &[u8]) -> bool
-    requires { length rec.now ≡ record_size }
+pub fn talker(rec: &[u8; RECORD]) -> bool
     ensures { result ≡ talker_right (device_of rec.now) }
 {
     let talker = rec[TALKER];

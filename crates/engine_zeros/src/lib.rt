@@ -11,10 +11,8 @@ pub fn zero_past(bytes: &[u8], from: usize, width: u8, past: u8) -> bool
     ensures { result ≡ zeros (drop past (bytes_from from width bytes.now)) }
 {
     let mut zero = true;
-    let mut i: u8 = 0;
-    while i < width {
+    for i in 0..width {
         zero = zero & ((i < past) | (bytes[from + i as usize] == 0));
-        i += 1;
     }
     zero
 }

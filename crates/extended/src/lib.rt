@@ -2,7 +2,7 @@
 // it begins with any other command. Bytes 20 and 21 are written where they lie, all else changes in the state.
 #![tactic(auto)]
 
-ghost use Rattle.std.specs.Prelude.{◌≡◌, true, ◌&&◌, ◌≤◌, ◌<◌, length};
+ghost use Rattle.std.specs.Prelude.{◌≡◌, true, ◌&&◌, ◌≤◌, ◌<◌};
 ghost use Rattle.frame.specs.Messages.{kind_at};
 ghost use Rattle.device.specs.Device.{extended, received, has_further};
 ghost use Rattle.device.specs.Choose.{choose};
@@ -10,15 +10,14 @@ ghost use Rattle.device.specs.Change.{flagging, seconding};
 ghost use Rattle.device.specs.Extended.{heeding, extended_lad, extended_tad, sad_listens, sad_talks, sad, extended_aau};
 ghost use Rattle.device.specs.Extended.{aes, aep};
 ghost use Rattle.device.specs.Take.{takes_extended};
-ghost use Rattle.record.specs.Record.{record_size, device_of, record_of};
-ghost use Rattle.record.specs.Written.{IsRecord};
+ghost use Rattle.record.specs.Record.{device_of, record_of};
 ghost use Rattle.state.specs.State.{in_record};
 ghost use Rattle.extended.specs.Own.{is_own, Stands, Does};
 
 use device::Device;
 use frame::Kind;
 use record::read::{has, has_further, talks};
-use record::{FIXED, FIXED_SECOND, SECOND};
+use record::{FIXED, FIXED_SECOND, SECOND, SIZE};
 use remote::to_remote;
 use state::{Passed, State, sends};
 
@@ -28,8 +27,8 @@ const NUL: u8 = 3;
 const DDT: u8 = 24;
 
 // Each flag is 0 or RECEIVED, in front of its second address.
-fn flag(rec: &mut [u8], listen: u8, talk: u8)
-    requires { IsRecord rec.old × (listen ≤ received) × (talk ≤ received) }
+fn flag(rec: &mut [u8; SIZE], listen: u8, talk: u8)
+    requires { (listen ≤ received) × (talk ≤ received) }
     ensures { rec.new ≡ record_of (flagging (device_of rec.old) listen talk) }
 {
     let fixed = rec[FIXED_SECOND] % Device::RECEIVED;
@@ -39,16 +38,15 @@ fn flag(rec: &mut [u8], listen: u8, talk: u8)
 }
 
 // A present second address, the flag in front of it as it was.
-fn take_second(rec: &mut [u8], address: u8)
-    requires { IsRecord rec.old × (address < received) }
+fn take_second(rec: &mut [u8; SIZE], address: u8)
+    requires { address < received }
     ensures { rec.new ≡ record_of (seconding (device_of rec.old) address) }
 {
     rec[SECOND] = rec[SECOND] / Device::RECEIVED * Device::RECEIVED + address;
 }
 
 // A primary is received; listener and talker wait for the second address.
-fn lad(state: State, rec: &mut [u8], address: u8) -> State
-    requires { IsRecord rec.old }
+fn lad(state: State, rec: &mut [u8; SIZE], address: u8) -> State
     ensures { Stands (extended_lad (in_record rec.old state) address) result rec.new }
 {
     if address == state.address {
@@ -63,8 +61,7 @@ fn lad(state: State, rec: &mut [u8], address: u8) -> State
     state
 }
 
-fn tad(state: State, rec: &mut [u8], address: u8) -> State
-    requires { IsRecord rec.old }
+fn tad(state: State, rec: &mut [u8; SIZE], address: u8) -> State
     ensures { Stands (extended_tad (in_record rec.old state) address) result rec.new }
 {
     if address == state.address {
@@ -79,8 +76,7 @@ fn tad(state: State, rec: &mut [u8], address: u8) -> State
     state.talking(Device::IDLE)
 }
 
-fn sad_listens(state: State, rec: &[u8]) -> State
-    requires { length rec.now ≡ record_size }
+fn sad_listens(state: State, rec: &[u8; SIZE]) -> State
     ensures { in_record rec.now result ≡ sad_listens (in_record rec.now state) }
 {
     if Device::RECEIVED <= rec[FIXED_SECOND] {
@@ -95,8 +91,7 @@ fn sad_listens(state: State, rec: &[u8]) -> State
     state
 }
 
-fn sad_talks(state: State, rec: &[u8]) -> State
-    requires { length rec.now ≡ record_size }
+fn sad_talks(state: State, rec: &[u8; SIZE]) -> State
     ensures { in_record rec.now result ≡ sad_talks (in_record rec.now state) }
 {
     if Device::RECEIVED <= rec[SECOND] {
@@ -111,8 +106,7 @@ fn sad_talks(state: State, rec: &[u8]) -> State
     state
 }
 
-fn sad(state: State, rec: &mut [u8], address: u8) -> State
-    requires { IsRecord rec.old }
+fn sad(state: State, rec: &mut [u8; SIZE], address: u8) -> State
     ensures { Stands (sad (in_record rec.old state) address) result rec.new }
 {
     if address == rec[SECOND] % Device::RECEIVED {
@@ -126,8 +120,7 @@ fn sad(state: State, rec: &mut [u8], address: u8) -> State
     state
 }
 
-fn aau(state: State, rec: &mut [u8]) -> State
-    requires { IsRecord rec.old }
+fn aau(state: State, rec: &mut [u8; SIZE]) -> State
     ensures { Stands (extended_aau (in_record rec.old state)) result rec.new }
 {
     let fixed = rec[FIXED];
@@ -138,8 +131,8 @@ fn aau(state: State, rec: &mut [u8]) -> State
 }
 
 // A device that has a second address passes AES on: taking it again would give two devices one address.
-fn aes(state: State, rec: &mut [u8], frame: u16, address: u8) -> Passed
-    requires { IsRecord rec.old × (frame < 65535) × (address < received) }
+fn aes(state: State, rec: &mut [u8; SIZE], frame: u16, address: u8) -> Passed
+    requires { (frame < 65535) × (address < received) }
     ensures { Does (aes (in_record rec.old state) frame address) result rec.new }
 {
     if state.configured == 0 {
@@ -150,8 +143,7 @@ fn aes(state: State, rec: &mut [u8], frame: u16, address: u8) -> Passed
     sends(state, frame)
 }
 
-fn aep(state: State, rec: &[u8], address: u8) -> State
-    requires { length rec.now ≡ record_size }
+fn aep(state: State, rec: &[u8; SIZE], address: u8) -> State
     ensures { in_record rec.now result ≡ aep (in_record rec.now state) address }
 {
     if state.configured == Device::HALF_ASSIGNED {
@@ -181,8 +173,8 @@ fn is_own(frame: u16) -> bool
 }
 
 // Whether the device is extended and the frame is one that it has a rule of its own for.
-pub fn owns(rec: &[u8], frame: u16) -> bool
-    requires { (length rec.now ≡ record_size) × (0x400 ≤ frame) × (frame < 0x600) }
+pub fn owns(rec: &[u8; SIZE], frame: u16) -> bool
+    requires { (0x400 ≤ frame) × (frame < 0x600) }
     ensures { result ≡ (has_further (device_of rec.now) extended && is_own (kind_at frame)) }
 {
     if has_further(rec, Device::EXTENDED) {
@@ -192,8 +184,8 @@ pub fn owns(rec: &[u8], frame: u16) -> bool
 }
 
 // What it does with such a frame.
-pub fn own(state: State, rec: &mut [u8], frame: u16) -> Passed
-    requires { IsRecord rec.old × (0x400 ≤ frame) × (frame < 0x600) × (is_own (kind_at frame) ≡ true) }
+pub fn own(state: State, rec: &mut [u8; SIZE], frame: u16) -> Passed
+    requires { (0x400 ≤ frame) × (frame < 0x600) × (is_own (kind_at frame) ≡ true) }
     ensures { Does (takes_extended (in_record rec.old state) frame) result rec.new }
 {
     match frame::kind_of(frame) {
@@ -210,8 +202,7 @@ pub fn own(state: State, rec: &mut [u8], frame: u16) -> Passed
 
 // Where it begins with any other frame, and where a simple device does: a command, which is not its own, clears both
 // flags of an extended one.
-pub fn heed(rec: &mut [u8], frame: u16)
-    requires { IsRecord rec.old }
+pub fn heed(rec: &mut [u8; SIZE], frame: u16)
     ensures { rec.new ≡ record_of (choose (has_further (device_of rec.old) extended)
         (heeding (device_of rec.old) (kind_at frame)) (device_of rec.old)) }
 {

@@ -1,16 +1,14 @@
 -- A device by its number (01, The calls): refusals 1 and 2 of the area first, then 3 where there is no such device.
-use Rattle.std.specs.Prelude.{ℕ, List, cond, eqb}
+use Rattle.std.specs.Prelude.{ℕ, List, cond, eqb, Option, Some, None, Result, Ok, Err}
 use Rattle.area.specs.Loop.{loop_of, judge_of}
 use Rattle.area.specs.Lookup.{place_of}
-use Rattle.area.specs.declared.Place.{Place}
 use Rattle.calls.specs.Calls.{no_device}
-use Rattle.find.specs.declared.Found.{Found}
 
 -- a place in a loop, or refusal 3
-abbrev pub found_at : Place → Found
-found_at Place.NoDevice = Found.Refused no_device
-found_at (Place.At i) = Found.At i
+abbrev pub found_at : Option ℕ → Result ℕ ℕ
+found_at None = Err no_device
+found_at (Some i) = Ok i
 
 -- device i of the loop in an area
-unfoldable pub found_of : List ℕ → ℕ → Found
-found_of a i = cond (eqb (judge_of a) 0) (found_at (place_of (loop_of a) i)) (Found.Refused (judge_of a))
+unfoldable pub found_of : List ℕ → ℕ → Result ℕ ℕ
+found_of a i = cond (eqb (judge_of a) 0) (found_at (place_of (loop_of a) i)) (Err (judge_of a))

@@ -3,27 +3,18 @@
 
 ghost use Rattle.std.specs.Prelude.{◌≡◌};
 ghost use Rattle.find.specs.Find.{found_of};
+ghost use Rattle.refusal.specs.Refusal.{numbered};
 
-use area::Place;
 use area::lookup::place_of;
-use calls::NO_DEVICE;
 use judge::judge;
+use refusal::Refusal;
 
-#[derive(Clone, Copy)]
-pub enum Found {
-    At(usize),
-    Refused(u8),
-}
-
-pub fn find(area: &[u8], device: u64) -> Found
-    ensures { result ≡ found_of area.now device }
+pub fn find(area: &[u8], device: u64) -> Result<usize, Refusal>
+    ensures { numbered result ≡ found_of area.now device }
 {
-    let wrong = judge(area);
-    if wrong != 0 {
-        return Found::Refused(wrong);
-    }
-    let Place::At(i) = place_of(area, device) else {
-        return Found::Refused(NO_DEVICE);
+    judge(area)?;
+    let Some(i) = place_of(area, device) else {
+        return Err(Refusal::NoDevice);
     };
-    Found::At(i)
+    Ok(i)
 }

@@ -8,6 +8,7 @@ ghost use Rattle.saved.specs.Saved.{head_size, is_of, headed, formed};
 ghost use Rattle.saved.specs.Inner.{SaveOf};
 
 use area::is_count;
+use area::runs::all_parts;
 use saved::{
     DEVICE, DEVICE_RECORD, EDITION_AT, EDITION_NOW, HEAD_SIZE, HEADER, HEADER_RECORD, LINK,
     LINK_RECORD, head_of, links_at, saved_size,
@@ -18,10 +19,7 @@ fn head_right(rec: &[u8], kind: u8) -> bool
     requires { (head_size ≤ length rec.now) × (length rec.now < 256) }
     ensures { result ≡ is_of kind rec.now }
 {
-    let h = head_of(kind, rec.len() - HEAD_SIZE);
-    (rec[0] == h[0])
-        & ((rec[1] == h[1])
-            & ((rec[2] == h[2]) & ((rec[3] == h[3]) & ((rec[4] == h[4]) & (rec[5] == h[5])))))
+    rec.starts_with(&head_of(kind, rec.len() - HEAD_SIZE))
 }
 
 // Whether each of so many records of one size does.
@@ -29,16 +27,7 @@ fn run_headed(records: &[u8], kind: u8, size: usize, count: usize) -> bool
     requires { (head_size ≤ size) × (size < 256) × (size * count ≤ length records.now) }
     ensures { result ≡ all (is_of kind) (parts size count records.now) }
 {
-    let mut rest = &records[..];
-    let mut left = count;
-    while left > 0 {
-        if !head_right(&rest[..size], kind) {
-            return false;
-        }
-        rest = &rest[size..];
-        left -= 1;
-    }
-    true
+    all_parts(records, size, count, |rec| head_right(rec, kind))
 }
 
 // Whether every record of a save of n devices does.

@@ -8,15 +8,13 @@ use native.Mathlib.Omega.{arith}
 use native.Mathlib.Decide.{dec_lt}
 use lib.Dec.{eqb, ltb}
 use borrow.Author.Tests.{lt-ltb, ltb-true, eqb-true, ne_eqb}
+use Rattle.std.specs.Prelude.{Option, Some, None}
 use Rattle.frame.specs.Messages.{frames, kinds, messages, kind_at, first_in, codes_in, first_of, codes_of}
 use Rattle.frame.specs.Decoding.{message, dab, end, idy, has_c1, offset_in, c1_in, decoded, offsets_of}
 use Rattle.frame.specs.Decoding.{c1s_of, frame_of}
 use Rattle.frame.specs.Coding.{decode_of, in_list, encode_of}
 use Rattle.frame.specs.Laws.{DecodeEncode, EncodeDecode, KindZero}
 use Rattle.frame.specs.declared.Message.{Message}
-use Rattle.frame.specs.declared.Decoded.TheVariants as decoder
-use Rattle.frame.specs.declared.Encoded.{Encoded}
-use Rattle.frame.specs.declared.Encoded.TheVariants as encoder
 use Rattle.frame.proofs.Rows.{within_kind, coded, ranged, no_kind}
 
 never : {A : Type 0} → false ≡ true → A
@@ -133,21 +131,21 @@ in_list_lem m t =
     let p = both_true (ltb m.offset (offsets_of m.kind)) (ltb m.c1 (c1s_of m.kind)) t in
     (ltb-true _ _ p.0, ltb-true _ _ p.1)
 
-abbrev is_frame : Encoded → Bool
-is_frame (encoder.Frame f) = true
-is_frame encoder.BadFrame = false
+abbrev is_frame : Option ℕ → Bool
+is_frame (Some f) = true
+is_frame None = false
 
 pub encode_decode : EncodeDecode
 unfolding encode_of decode_of
 encode_decode m f e = split (in_list m) refl e
   where
-    split : (b : Bool) → in_list m ≡ b → cond b (encoder.Frame (frame_of m)) encoder.BadFrame ≡ encoder.Frame f →
-        decode_of f ≡ decoder.Of m
+    split : (b : Bool) → in_list m ≡ b → cond b (Some (frame_of m)) None ≡ Some f →
+        decode_of f ≡ Some m
     split true t e =
         let q : frame_of m ≡ f = cc in
         let h = in_list_lem m t in
         let p = placed m.kind m.offset m.c1 h.0 h.1 in
-        rw (← q, lt-ltb (frame_of m) frames p.below) (ap decoder.Of p.again)
+        rw (← q, lt-ltb (frame_of m) frames p.below) (ap Some p.again)
     split false t e = let z : false ≡ true = ap is_frame e in never z
 
 -- A frame of the list has an offset and a C1 of its kind, and they make it

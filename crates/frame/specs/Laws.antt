@@ -1,13 +1,11 @@
 -- The laws of the codes, as statements: the table is in order, the decoder and the encoder undo each other, kind 0 is
 -- what is left. proofs/Rows.antt proves the first three, Every.antt OneKind, and Laws.antt the others.
-use Rattle.std.specs.Prelude.{ℕ, suc, ◌+◌, ◌≤◌, ◌<◌, ◌≡◌, List, [], ◌∷◌}
+use Rattle.std.specs.Prelude.{ℕ, suc, ◌+◌, ◌≤◌, ◌<◌, ◌≡◌, List, [], ◌∷◌, Some}
 use Rattle.frame.specs.Messages.{frames, kinds, Row, messages, kind_at, number_of, first_of, codes_of}
 use Rattle.frame.specs.Decoding.{message, decoded}
 use Rattle.frame.specs.Coding.{decode_of, encode_of}
 use Rattle.frame.specs.declared.Kind.{Kind}
 use Rattle.frame.specs.declared.Message.{Message}
-use Rattle.frame.specs.declared.Decoded.TheVariants as decoder
-use Rattle.frame.specs.declared.Encoded.TheVariants as encoder
 
 -- Rows from kind n and code a on: numbered one by one, none without a code, each after the codes of the one before
 abbrev pub InOrder : ℕ → ℕ → List Row → Type 0
@@ -33,11 +31,11 @@ WithinKind = (f k : ℕ) → kind_at f ≡ k → 0 < k → CodeOf k f
 
 -- Decoding then encoding gives back every frame that is not of kind 0
 abbrev pub DecodeEncode : Type 0
-DecodeEncode = (f : ℕ) → 0 < (decoded f).kind → encode_of (decoded f) ≡ encoder.Frame f
+DecodeEncode = (f : ℕ) → 0 < (decoded f).kind → encode_of (decoded f) ≡ Some f
 
 -- Encoding then decoding gives back kind, offset and C1 wherever the encoder accepts them
 abbrev pub EncodeDecode : Type 0
-EncodeDecode = (m : Message) (f : ℕ) → encode_of m ≡ encoder.Frame f → decode_of f ≡ decoder.Of m
+EncodeDecode = (m : Message) (f : ℕ) → encode_of m ≡ Some f → decode_of f ≡ Some m
 
 -- Kind 0 is exactly the frames that no kind has, and its offset and C1 are zero
 pub record NoneHas (f : ℕ) : Type 0 where

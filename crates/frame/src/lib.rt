@@ -31,9 +31,6 @@ pub const END: u8 = 2;
 
 pub const IDY: u8 = 42;
 
-// The refusal BadFrame.
-pub const BAD_FRAME: u8 = 4;
-
 // The kinds of frame in the order of their numbers; `Unused` is kind 0, of every frame outside the list.
 #[derive(Clone, Copy)]
 pub enum Kind {
@@ -88,20 +85,6 @@ pub struct Message {
     pub kind: u8,
     pub offset: u8,
     pub c1: u8,
-}
-
-// What the decoder answers: the decoding, or refusal 4.
-#[derive(Clone, Copy)]
-pub enum Decoded {
-    Of(Message),
-    BadFrame,
-}
-
-// What the encoder answers: the frame, or refusal 4.
-#[derive(Clone, Copy)]
-pub enum Encoded {
-    Frame(u16),
-    BadFrame,
 }
 
 // The kind of a frame; a number over 2,047 is no frame and is of kind 0.
@@ -159,51 +142,7 @@ pub fn kind_of(frame: u16) -> Kind
 pub fn number(kind: Kind) -> u8
     ensures { result ≡ number_of kind }
 {
-    match kind {
-        Kind::Unused => 0,
-        Kind::Dab => 1,
-        Kind::End => 2,
-        Kind::Nul => 3,
-        Kind::Gtl => 4,
-        Kind::Sdc => 5,
-        Kind::Ppd => 6,
-        Kind::Get => 7,
-        Kind::Llo => 8,
-        Kind::Dcl => 9,
-        Kind::Ppu => 10,
-        Kind::Ear => 11,
-        Kind::Lad => 12,
-        Kind::Unl => 13,
-        Kind::Tad => 14,
-        Kind::Unt => 15,
-        Kind::Sad => 16,
-        Kind::Ppe => 17,
-        Kind::Ifc => 18,
-        Kind::Ren => 19,
-        Kind::Nre => 20,
-        Kind::Aau => 21,
-        Kind::Lpd => 22,
-        Kind::Ddl => 23,
-        Kind::Ddt => 24,
-        Kind::Rfc => 25,
-        Kind::Eto => 26,
-        Kind::Ete => 27,
-        Kind::Nrd => 28,
-        Kind::Sda => 29,
-        Kind::Sst => 30,
-        Kind::Sdi => 31,
-        Kind::Sai => 32,
-        Kind::Tct => 33,
-        Kind::Aad => 34,
-        Kind::Iaa => 35,
-        Kind::Aep => 36,
-        Kind::Iep => 37,
-        Kind::Aes => 38,
-        Kind::Ies => 39,
-        Kind::Amp => 40,
-        Kind::Imp => 41,
-        Kind::Idy => 42,
-    }
+    kind as u8
 }
 
 // Kinds are the numbers below this.
@@ -374,46 +313,48 @@ pub fn offset_of(kind: Kind, frame: u16) -> u8
     (frame - first(number(kind) as usize)) as u8
 }
 
-// The decoder.
-pub fn decode(frame: u64) -> Decoded
+// The decoder: the decoding, if the number is a frame.
+#[tactic(auto, using(crate::proofs::Laws::nought, crate::proofs::Laws::same, crate::proofs::Laws::c1_coded), unfolding(crate::specs::Coding::decode_of))]
+pub fn decode(frame: u64) -> Option<Message>
     ensures { result ≡ decode_of frame }
 {
     if FRAMES as u64 <= frame {
-        return Decoded::BadFrame;
+        return None;
     }
     let f = frame as u16;
     let kind = kind_of(f);
     let k = number(kind);
     if has_c1(k) {
-        return Decoded::Of(with_c1(k, f));
+        return Some(with_c1(k, f));
     }
     if k == 0 {
-        return Decoded::Of(Message {
+        return Some(Message {
             kind: 0,
             offset: 0,
             c1: 0,
         });
     }
-    Decoded::Of(Message {
+    Some(Message {
         kind: k,
         offset: offset_of(kind, f),
         c1: 0,
     })
 }
 
-// The encoder.
-pub fn encode(kind: u64, offset: u64, c1: u64) -> Encoded
+// The encoder: the frame, if the list has these three.
+#[tactic(auto, using(crate::proofs::Laws::no_offsets), unfolding(crate::specs::Coding::encode_of))]
+pub fn encode(kind: u64, offset: u64, c1: u64) -> Option<u16>
     ensures { result ≡ encode_of (message kind offset c1) }
 {
     if KINDS as u64 <= kind {
-        return Encoded::BadFrame;
+        return None;
     }
     let k = kind as usize;
     if offsets(k) as u64 <= offset {
-        return Encoded::BadFrame;
+        return None;
     }
     if c1s(kind as u8) as u64 <= c1 {
-        return Encoded::BadFrame;
+        return None;
     }
-    Encoded::Frame(first(k) + offset as u16 + C1 * c1 as u16)
+    Some(first(k) + offset as u16 + C1 * c1 as u16)
 }

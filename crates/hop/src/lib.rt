@@ -7,23 +7,24 @@ ghost use Rattle.area.specs.Lookup.{set_device};
 ghost use Rattle.calls.specs.Outcome.{Is, after_of};
 ghost use Rattle.calls.specs.Calls.{no_hop, hop_answer, sent_by, passed, hop_in, hop_of};
 ghost use Rattle.calls.specs.Inner.{Passes as CanPass};
+ghost use Rattle.refusal.specs.Refusal.{number};
 ghost use Rattle.taker.specs.InPlace.{Passes};
 
 use area::change::{add_at, remove_at};
 use area::lookup::{oldest_at, record_start, room_at};
-use area::{Oldest, Room};
-use calls::{CLEAR, EMPTY, FULL, HopAnswer, NO_EVENT, TRIGGER};
+use calls::{CLEAR, HopAnswer, NO_EVENT, TRIGGER};
 use device::Handed;
-use find::{Found, find};
+use find::find;
+use refusal::Refusal;
 use state::Passed;
 use taker::take_in;
 
-fn no_hop(refusal: u8) -> HopAnswer
-    ensures { result ≡ no_hop refusal }
+fn no_hop(refusal: Refusal) -> HopAnswer
+    ensures { result ≡ no_hop (number refusal) }
 {
     HopAnswer {
         frame: 0,
-        refusal,
+        refusal: refusal.number(),
         handed: 0,
         byte: 0,
         end: 0,
@@ -90,16 +91,17 @@ fn pass_on(area: &mut [u8], i: usize, frame: u16, behind: usize) -> Passed
 }
 
 // A hop of device i in an area without a refusal.
+#[tactic(auto, using(area::proofs::Areas::few_devices, calls::proofs::Outcomes::ways))]
 pub fn hop_at(area: &mut [u8], i: usize) -> HopAnswer
     requires { HasDevice area.old i }
     ensures { Is (after_of no_hop area.old (hop_in i (loop_of area.old))) result
         area.new }
 {
-    let Oldest::Frame(frame) = oldest_at(area, i) else {
-        return no_hop(EMPTY);
+    let Some(frame) = oldest_at(area, i) else {
+        return no_hop(Refusal::Empty);
     };
-    let Room::Behind(behind) = room_at(area, i + 1) else {
-        return no_hop(FULL);
+    let Some(behind) = room_at(area, i + 1) else {
+        return no_hop(Refusal::Full);
     };
     hop_answer(pass_on(area, i, frame, behind))
 }
@@ -108,7 +110,7 @@ pub fn hop(area: &mut [u8], device: u64) -> HopAnswer
     ensures { Is (hop_of area.old device) result area.new }
 {
     match find(area, device) {
-        Found::Refused(wrong) => no_hop(wrong),
-        Found::At(i) => hop_at(area, i),
+        Ok(i) => hop_at(area, i),
+        Err(refusal) => no_hop(refusal),
     }
 }

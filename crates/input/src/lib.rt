@@ -15,10 +15,10 @@ pub fn fill<R: Read>(from: &mut R, buffer: &mut [u8]) -> io::Result<usize>
     ensures all { IfOk result (λ n. n < length buffer.new → IsAtEnd (R.remaining from.new)) }
 {
     let mut done = 0;
-    for _ in 0..buffer.len() {
+    while done < buffer.len() {
         let n = from.read(&mut buffer[done..])?;
         done += n;
-        if n == 0 || done == buffer.len() {
+        if n == 0 {
             break;
         }
     }

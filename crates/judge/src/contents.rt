@@ -8,6 +8,7 @@ ghost use Rattle.area.specs.Parts.{parts, all};
 ghost use Rattle.area.specs.Link.{sound_slot, sound_link};
 ghost use Rattle.area.specs.Loop.{Shaped, sound};
 
+use area::runs::all_parts;
 use area::{DEPTH, HEADER_SIZE, LINK_SIZE};
 use record::word_at;
 
@@ -15,16 +16,9 @@ pub fn records_sound(records: &[u8], n: usize) -> bool
     requires { record_size * n ≤ length records.now }
     ensures { result ≡ all sound_record (parts record_size n records.now) }
 {
-    let mut rest = &records[..];
-    let mut left = n;
-    while left > 0 {
-        if !sound::record_sound(&rest[..record::SIZE]) {
-            return false;
-        }
-        rest = &rest[record::SIZE..];
-        left -= 1;
-    }
-    true
+    all_parts(records, record::SIZE, n, |part| {
+        part.as_array().is_some_and(sound::record_sound)
+    })
 }
 
 // Whether the k-th number of a link that holds n frames is a frame, or else 0.
@@ -34,14 +28,18 @@ fn slot_sound(n: u8, k: u8, f: u16) -> bool
     (f < frame::FRAMES as u16) & ((k < n) | (f == 0))
 }
 
+fn all_zero(bytes: &[u8]) -> bool
+    ensures { result ≡ zeros bytes.now }
+{
+    bytes.iter().all(|byte| *byte == 0)
+}
+
 // A link that holds no frame: most do.
 fn empty_sound(link: &[u8]) -> bool
     requires { (length link.now ≡ link_size) × (get_or link.now 0 0 ≡ 0) }
     ensures { result ≡ sound_link link.now }
 {
-    (link[1] == 0)
-        & ((word_at(link, 2) == 0)
-            & ((word_at(link, 4) == 0) & ((word_at(link, 6) == 0) & (word_at(link, 8) == 0))))
+    all_zero(&link[1..])
 }
 
 fn frames_sound(link: &[u8]) -> bool
@@ -70,16 +68,7 @@ pub fn links_sound(links: &[u8], n: usize) -> bool
     requires { link_size * n ≤ length links.now }
     ensures { result ≡ all sound_link (parts link_size n links.now) }
 {
-    let mut rest = &links[..];
-    let mut left = n;
-    while left > 0 {
-        if !link_sound(&rest[..LINK_SIZE]) {
-            return false;
-        }
-        rest = &rest[LINK_SIZE..];
-        left -= 1;
-    }
-    true
+    all_parts(links, LINK_SIZE, n, link_sound)
 }
 
 // Bytes 2 to 7 of a header are zero, in an area and in a save.
@@ -87,9 +76,7 @@ pub fn rest_zero(header: &[u8]) -> bool
     requires { header_size ≤ length header.now }
     ensures { result ≡ zeros (bytes_from 2 6 header.now) }
 {
-    (header[2] == 0)
-        & ((header[3] == 0)
-            & ((header[4] == 0) & ((header[5] == 0) & ((header[6] == 0) & (header[7] == 0)))))
+    all_zero(&header[2..HEADER_SIZE])
 }
 
 // Bytes 1 to 7 are zero.

@@ -5,9 +5,11 @@ pub mod contents;
 
 ghost use Rattle.std.specs.Prelude.{◌≡◌};
 ghost use Rattle.area.specs.Loop.{shaped, judge_of};
+ghost use Rattle.refusal.specs.Refusal.{told};
 
 use crate::contents::contents_sound;
-use area::{SHAPE, UNSOUND, area_size, is_count};
+use area::{area_size, is_count};
+use refusal::Refusal;
 
 // The length is that of byte 0.
 pub fn shape_right(area: &[u8]) -> bool
@@ -20,15 +22,15 @@ pub fn shape_right(area: &[u8]) -> bool
     is_count(n) & (area.len() == area_size(n))
 }
 
-// An area's refusal, 0 for none.
-pub fn judge(area: &[u8]) -> u8
-    ensures { result ≡ judge_of area.now }
+// An area's refusal, if it has one.
+pub fn judge(area: &[u8]) -> Result<(), Refusal>
+    ensures { told result ≡ judge_of area.now }
 {
     if !shape_right(area) {
-        return SHAPE;
+        return Err(Refusal::Shape);
     }
     if !contents_sound(area) {
-        return UNSOUND;
+        return Err(Refusal::Unsound);
     }
-    0
+    Ok(())
 }

@@ -1,7 +1,6 @@
 // Lists each script that an argument names, under a line with its name.
 #![tactic(auto)]
 
-use print::text;
 use std::rt::Files;
 use std::{env, fs, io};
 
@@ -21,9 +20,7 @@ fn list<R: Files + Print + Eprint>(rt: &R, err: &impl Print, name: &str) -> io::
 
 // An argument and its script.
 fn show<R: Files + Print + Eprint>(rt: &R, err: &impl Print, name: &str) -> io::Result<()> {
-    text(rt, b"-- ")?;
-    text(rt, name.as_bytes())?;
-    text(rt, b"\n")?;
+    println!(rt; "-- {name}")?;
     list(rt, err, name)
 }
 

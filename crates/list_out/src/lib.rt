@@ -22,16 +22,13 @@ fn explain(
     number: usize,
     chunk: Chunk,
 ) -> io::Result<()> {
-    let next = chunk.next;
-    if let Next::End = next {
-        if chunk.written > 0 {
-            return wrong::later(err, input, at, number);
-        }
+    match chunk.next {
+        Next::End if chunk.written > 0 => wrong::later(err, input, at, number),
+        _ => Ok(()),
     }
-    Ok(())
 }
 
-// The chunks behind the first: no more than the input has bytes.
+// The chunks behind the first: each goes on past the place where it began.
 fn rest(
     rt: &impl Print,
     err: &impl Print,
@@ -41,10 +38,7 @@ fn rest(
     out: &mut [u8],
 ) -> io::Result<()> {
     let mut next = first;
-    for _ in 0..input.len() {
-        let Next::Line(at, number) = next else {
-            return Ok(());
-        };
+    while let Next::Line(at, number) = next {
         let chunk = lister::step(input, at, number, area, out);
         write(rt, out, chunk.written)?;
         explain(err, input, at, number, chunk)?;

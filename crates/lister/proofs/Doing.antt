@@ -9,6 +9,7 @@ use lib.Dec.{eqb, leb}
 use lib.ListN.{length, take, drop, take-append-drop, length-append, length-take, length-drop}
 use lib.Seq.{length-take-le, take-length, get_or-take}
 use borrow.Author.Tests.{eqb-true, eq-eqb, leb-true, le-leb, lt-ltb, le-ltb}
+use Rattle.std.specs.Prelude.{Some, None}
 use Rattle.record.proofs.Both.{left, right, never}
 use Rattle.record.specs.Parts.{splice}
 use Rattle.record.specs.Sound.{allowed}
@@ -31,8 +32,6 @@ use Rattle.lister.specs.Chunks.{area_room, roomy, size_in, loop_bytes, does, lin
 use Rattle.lister.specs.Inner.{SetUp}
 use Rattle.lister.specs.Chunks.{set_up_does, first_does, start_does, line_does, ready, step_does, Does, Did}
 use Rattle.lister.specs.declared.Chunk.{Chunk}
-use Rattle.script.specs.declared.FrameLine.{FrameLine}
-use Rattle.script.specs.declared.LoopLine.{LoopLine}
 use Rattle.lister.specs.declared.Next.{Next}
 use Rattle.lister.proofs.Begin.{items_long, set_up_refused, set_up_done}
 
@@ -53,11 +52,11 @@ module _ (line : List ℕ) where
   abbrev range : Bool
   range = is_count most_devices (devices_in line)
 
-  pub devices : (n : ℕ) → loop_in line ≡ LoopLine.Devices n → Devices line n
+  pub devices : (n : ℕ) → loop_in line ≡ Some n → Devices line n
   devices n h = go (loop_right line) range refl refl h
     where
       go : (t u : Bool) → loop_right line ≡ t → range ≡ u →
-          cond (t && u) (LoopLine.Devices (devices_in line)) LoopLine.Wrong ≡ LoopLine.Devices n → Devices line n
+          cond (t && u) (Some (devices_in line)) None ≡ Some n → Devices line n
       go true true p q e =
           let c : devices_in line ≡ n = cc in
           let d = devices_in line in
@@ -86,13 +85,13 @@ module _ (line : List ℕ) where
       omega arith
 
   -- a wrong line 1
-  pub first_wrong : (area : List ℕ) → area_room ≤ length area → loop_in line ≡ LoopLine.Wrong →
+  pub first_wrong : (area : List ℕ) → area_room ≤ length area → loop_in line ≡ None →
       first_does line area ≡ does (bad_line 1) Next.End area
   unfolding first_does
   first_wrong area lent h = go (loop_right line) range refl refl h
     where
       go : (t u : Bool) → loop_right line ≡ t → range ≡ u →
-          cond (t && u) (LoopLine.Devices (devices_in line)) LoopLine.Wrong ≡ LoopLine.Wrong →
+          cond (t && u) (Some (devices_in line)) None ≡ None →
           cond t (set_up_does (area_size (devices_in line)) line (set_up_in line area) area) (does (bad_line 1) Next.End area)
           ≡ does (bad_line 1) Next.End area
       go true true p q e = let z : ◌≡◌ {A = ℕ} 0 1 = cc in absurd (omega arith)
@@ -226,18 +225,18 @@ module _ (input area : List ℕ) (at n room : ℕ) where
   step_line h l = rw (h, lt-ltb at (length input) l)
 
 module _ (line : List ℕ) (at n : ℕ) (area : List ℕ) where
-  pub line_wrong : frame_in line ≡ FrameLine.Wrong → line_does line at n area ≡ does (bad_line n) Next.End area
+  pub line_wrong : frame_in line ≡ None → line_does line at n area ≡ does (bad_line n) Next.End area
   unfolding line_does
   line_wrong h = go (frame_right line) refl h
     where
-      go : (t : Bool) → frame_right line ≡ t → cond t (FrameLine.Frame (number_at 0 3 line)) FrameLine.Wrong
-          ≡ FrameLine.Wrong →
+      go : (t : Bool) → frame_right line ≡ t → cond t (Some (number_at 0 3 line)) None
+          ≡ None →
           line_does line at n area ≡ does (bad_line n) Next.End area
       go true p e = let z : ◌≡◌ {A = ℕ} 0 1 = cc in absurd (omega arith)
       go false p e = rw p
 
   -- the frame goes round in the first bytes of the lent area
-  pub line_round : {out out' part : List ℕ} {frame size w : ℕ} {r : Chunk} → frame_in line ≡ FrameLine.Frame frame →
+  pub line_round : {out out' part : List ℕ} {frame size w : ℕ} {r : Chunk} → frame_in line ≡ Some frame →
       size ≡ size_in area →
       (part ≡ round_area frame (take size area)) × (Wrote (round_text frame (take size area)) 0 out w out') →
       r.written ≡ w → r.next ≡ Next.Line (at + length line + 1) (n + 1) →
@@ -245,8 +244,8 @@ module _ (line : List ℕ) (at n : ℕ) (area : List ℕ) where
   unfolding line_does
   line_round {out} {out'} {part} {frame} {size} {w} {r} h s d p q = go (frame_right line) refl h
     where
-      go : (t : Bool) → frame_right line ≡ t → cond t (FrameLine.Frame (number_at 0 3 line)) FrameLine.Wrong
-          ≡ FrameLine.Frame frame →
+      go : (t : Bool) → frame_right line ≡ t → cond t (Some (number_at 0 3 line)) None
+          ≡ Some frame →
           Did (line_does line at n area) out r (part ++ drop size area) out'
       go true k e =
           let f : frame ≡ number_at 0 3 line = cc in

@@ -20,7 +20,7 @@ use Rattle.text.specs.Out.{bad_line}
 use Rattle.script.specs.Script.{frame_right}
 use Rattle.round.specs.Round.{text_room, round_text, round_area}
 use Rattle.lister.specs.Listing.{longest, frames_listed}
-use Rattle.lister.specs.Chunks.{area_room, roomy, size_in, loop_bytes, over, does, line_at, line_does, ready}
+use Rattle.lister.specs.Chunks.{area_room, size_in, loop_bytes, over, does, line_at, line_does, ready}
 use Rattle.lister.specs.Chunks.{step_does}
 use Rattle.lister.specs.Laws.{text_from, next_from}
 use Rattle.lister.specs.declared.Next.{Next}

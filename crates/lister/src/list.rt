@@ -1,15 +1,17 @@
 // The listing's chunks: `start` does line 1, and `step` a line a call.
-ghost use Rattle.std.specs.Prelude.{◌≡◌, true, ◌+◌, ◌^◌, ◌≤◌, ◌<◌, length};
+ghost use Rattle.std.specs.Prelude.{◌≡◌, true, ◌+◌, ◌^◌, ◌≤◌, ◌<◌, length, Some};
 ghost use Rattle.script.specs.Script.{loop_in};
 ghost use Rattle.lister.specs.Chunks.{area_room, roomy, ready, Did, first_does, start_does, line_does, step_does};
 ghost use Rattle.round.specs.Round.{text_room};
 ghost use Rattle.lister.specs.Inner.{SetUp};
+ghost use Rattle.refusal.specs.Refusal.{told};
 
 use crate::{AREA_ROOM, Chunk, LONGEST, Next, TEXT_ROOM};
 use area::{ITEM_SIZE, MOST_DEVICES, area_size, is_count};
 use judge::judge;
+use refusal::Refusal;
 use round::round;
-use script::{FrameLine, LoopLine, WORD_SIZE, frame_in, items_in, loop_in};
+use script::{WORD_SIZE, frame_in, items_in, loop_in};
 use text::{bad_line, put};
 
 // Bytes of the items of as many devices as a loop can have.
@@ -34,13 +36,13 @@ fn is_ready(number: usize, area: &[u8], out: &[u8]) -> bool
         return false;
     }
     let size = area_size(n);
-    (number <= LONGEST) & (judge(&area[..size]) == 0)
+    (number <= LONGEST) & judge(&area[..size]).is_ok()
 }
 
 // The set-up of line 1's devices, in the first bytes of the lent area.
-fn set_up(line: &[u8], n: usize, area: &mut [u8]) -> u8
-    requires { (loop_in line.now ≡ LoopLine.Devices n) × (area_room ≤ length area.old) }
-    ensures { SetUp line.now area.old result area.new }
+fn set_up(line: &[u8], n: usize, area: &mut [u8]) -> Result<(), Refusal>
+    requires { (loop_in line.now ≡ Some n) × (area_room ≤ length area.old) }
+    ensures { SetUp line.now area.old (told result) area.new }
 {
     let mut items = [0u8; ITEMS_ROOM];
     items_in(&line[WORD_SIZE..], n, &mut items);
@@ -54,10 +56,10 @@ fn first(line: &[u8], area: &mut [u8], out: &mut [u8]) -> Chunk
     ensures { Did (first_does line.now area.old)
         out.old result area.new out.new }
 {
-    let LoopLine::Devices(n) = loop_in(line) else {
+    let Some(n) = loop_in(line) else {
         return Chunk::last(bad_line(out, 1));
     };
-    if set_up(line, n, area) != 0 {
+    if set_up(line, n, area).is_err() {
         return Chunk::last(bad_line(out, 1));
     }
     Chunk {
@@ -87,7 +89,7 @@ fn line(line: &[u8], at: usize, number: usize, area: &mut [u8], out: &mut [u8]) 
     ensures { Did (line_does line.now at number area.old)
         out.old result area.new out.new }
 {
-    let FrameLine::Frame(frame) = frame_in(line) else {
+    let Some(frame) = frame_in(line) else {
         return Chunk::last(bad_line(out, number));
     };
     let size = area_size(area[0] as usize);

@@ -1,2 +1,2 @@
--- Called has what a local call of a device that is found asks and does, once for the three calls.
+-- Called has what a local call of a device that is found asks and does, once for all calls.
 mod Called

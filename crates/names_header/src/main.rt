@@ -2,104 +2,68 @@
 // stop reasons, states and events.
 #![tactic(auto)]
 
-use frame::KINDS;
-use print::{decimal, text};
 use std::io;
 
-// What the arrays of the header are of.
-#[derive(Clone, Copy)]
-enum Names {
-    Kinds,
-    Refusals,
-    Stops,
-    Assignments,
-    Talkers,
-    Services,
-    Remotes,
-    Events,
-}
-
 fn main(rt: HostRuntime) -> io::Result<()> {
-    text(&rt, b"#ifndef PIL_NAMES_H\n")?;
-    text(&rt, b"#define PIL_NAMES_H\n")?;
-    text(&rt, b"\n")?;
-    text(
+    println!(rt; "#ifndef PIL_NAMES_H\n#define PIL_NAMES_H\n")?;
+    println!(rt; "/* Names for the numbers of pil.h: each array is indexed by such a number. */")?;
+    array(
         &rt,
-        b"/* Names for the numbers of pil.h: each array is indexed by such a number. */\n",
+        "Mnemonics of kinds, PIL_KIND_NONE to PIL_KIND_IDY.",
+        "kind_names",
+        &names::MNEMONICS,
     )?;
-    text(
+    array(
         &rt,
-        b"\n/* Mnemonics of kinds, PIL_KIND_NONE to PIL_KIND_IDY. */\n",
+        "Refusals, PIL_ACCEPTED to PIL_BAD_SAVE.",
+        "refusal_texts",
+        &names::REFUSALS,
     )?;
-    names_of(&rt, Names::Kinds, b"kind_names", KINDS as u64)?;
-    text(&rt, b"\n/* Refusals, PIL_ACCEPTED to PIL_BAD_SAVE. */\n")?;
-    names_of(&rt, Names::Refusals, b"refusal_texts", 11)?;
-    text(
+    array(
         &rt,
-        b"\n/* Why a drain stopped, PIL_STOP_NO_HOP to PIL_STOP_EVENT. */\n",
+        "Why a drain stopped, PIL_STOP_NO_HOP to PIL_STOP_EVENT.",
+        "stop_texts",
+        &names::STOPS,
     )?;
-    names_of(&rt, Names::Stops, b"stop_texts", 4)?;
-    text(
+    array(
         &rt,
-        b"\n/* Assignment states, PIL_UNCONFIGURED to PIL_HALF_ASSIGNED. */\n",
+        "Assignment states, PIL_UNCONFIGURED to PIL_HALF_ASSIGNED.",
+        "assignment_texts",
+        &names::ASSIGNMENTS,
     )?;
-    names_of(&rt, Names::Assignments, b"assignment_texts", 3)?;
-    text(
+    array(
         &rt,
-        b"\n/* Talker states, PIL_TALKER_IDLE to PIL_TALKER_ACCESSORY. */\n",
+        "Talker states, PIL_TALKER_IDLE to PIL_TALKER_ACCESSORY.",
+        "talker_texts",
+        &names::TALKERS,
     )?;
-    names_of(&rt, Names::Talkers, b"talker_texts", 6)?;
-    text(
+    array(
         &rt,
-        b"\n/* Service states, PIL_SERVICE_NONE to PIL_SERVICE_POLLED. */\n",
+        "Service states, PIL_SERVICE_NONE to PIL_SERVICE_POLLED.",
+        "service_texts",
+        &names::SERVICES,
     )?;
-    names_of(&rt, Names::Services, b"service_texts", 3)?;
-    text(
+    array(
         &rt,
-        b"\n/* Remote and local, PIL_LOCAL to PIL_REMOTE_LOCKED. */\n",
+        "Remote and local, PIL_LOCAL to PIL_REMOTE_LOCKED.",
+        "remote_texts",
+        &names::REMOTES,
     )?;
-    names_of(&rt, Names::Remotes, b"remote_texts", 4)?;
-    text(
+    array(
         &rt,
-        b"\n/* Events, PIL_EVENT_NONE to PIL_EVENT_TRIGGER. */\n",
+        "Events, PIL_EVENT_NONE to PIL_EVENT_TRIGGER.",
+        "event_texts",
+        &names::EVENTS,
     )?;
-    names_of(&rt, Names::Events, b"event_texts", 3)?;
-    text(&rt, b"\n#endif\n")
+    println!(rt; "\n#endif")
 }
 
-// An array: its name, how many entries it has, and these.
-fn names_of(rt: &impl Print, of: Names, name: &[u8], count: u64) -> io::Result<()> {
-    text(rt, b"static const char *const pil_")?;
-    text(rt, name)?;
-    text(rt, b"[")?;
-    decimal(rt, count)?;
-    text(rt, b"] = {\n")?;
-    entries(rt, of, count)?;
-    text(rt, b"};\n")
-}
-
-fn entries(rt: &impl Print, of: Names, count: u64) -> io::Result<()> {
-    for at in 0..count {
-        entry(rt, of, at)?;
+// An array: what it is of, its name, and its entries.
+fn array(rt: &impl Print, what: &str, name: &str, table: &[&str]) -> io::Result<()> {
+    let count = table.len();
+    println!(rt; "\n/* {what} */\nstatic const char *const pil_{name}[{count}] = {{")?;
+    for entry in table {
+        println!(rt; "    \"{entry}\",")?;
     }
-    Ok(())
-}
-
-fn entry(rt: &impl Print, of: Names, number: u64) -> io::Result<()> {
-    text(rt, b"    \"")?;
-    name(rt, of, number)?;
-    text(rt, b"\",\n")
-}
-
-fn name(rt: &impl Print, of: Names, number: u64) -> io::Result<()> {
-    match of {
-        Names::Kinds => names::kind(rt, number),
-        Names::Refusals => names::refusal(rt, number),
-        Names::Stops => names::stop(rt, number),
-        Names::Assignments => names::assignment(rt, number),
-        Names::Talkers => names::talker(rt, number),
-        Names::Services => names::service(rt, number),
-        Names::Remotes => names::remote(rt, number),
-        Names::Events => names::event(rt, number),
-    }
+    println!(rt; "}};")
 }

@@ -8,6 +8,7 @@ ghost use Rattle.area.specs.Parts.{parts, join, all};
 ghost use Rattle.saved.specs.Saved.{saved_device_size};
 ghost use Rattle.saved.specs.Older.{asked, zero_choice_in};
 
+use area::runs::all_parts;
 use device::Device;
 use record::{CHOICE, LOAD_LENGTH};
 use saved::{DEVICE_RECORD, HEAD_SIZE};
@@ -17,16 +18,9 @@ pub fn choices_zero(records: &[u8], n: usize) -> bool
     requires { saved_device_size * n ≤ length records.now }
     ensures { result ≡ all zero_choice_in (parts saved_device_size n records.now) }
 {
-    let mut rest = &records[..];
-    let mut left = n;
-    while left > 0 {
-        if rest[HEAD_SIZE + CHOICE] != Device::PLAIN_LAST {
-            return false;
-        }
-        rest = &rest[DEVICE_RECORD..];
-        left -= 1;
-    }
-    true
+    all_parts(records, DEVICE_RECORD, n, |record| {
+        record[HEAD_SIZE + CHOICE] == Device::PLAIN_LAST
+    })
 }
 
 // END is chosen where there is data.
@@ -44,12 +38,8 @@ pub fn ask(records: &mut [u8], n: usize)
     requires { length records.old ≡ record_size * n }
     ensures { records.new ≡ join (map asked (parts record_size n records.old)) }
 {
-    let mut at = 0;
-    let mut left = n;
-    while left > 0 {
-        let end = at + record::SIZE;
-        ask_one(&mut records[at..end]);
-        at = end;
-        left -= 1;
+    for i in 0..n {
+        let at = record::SIZE * i;
+        ask_one(&mut records[at..at + record::SIZE]);
     }
 }

@@ -5,30 +5,32 @@
 mod old;
 
 ghost use Rattle.calls.specs.Outcome.{Is};
+ghost use Rattle.refusal.specs.Refusal.{told};
 ghost use Rattle.saved.specs.Calls.{open_of};
 
 use crate::old::open_old;
-use area::{SHAPE, UNSOUND, area_size};
+use area::area_size;
 use bodies::{bodies_sound, read_bodies};
 use form::form_right;
-use saved::{BAD_SAVE, EDITION_AT, EDITION_OLD, HEAD_SIZE};
+use refusal::Refusal;
+use saved::{EDITION_AT, EDITION_OLD, HEAD_SIZE};
 
-pub fn open(area: &mut [u8], save: &[u8]) -> u8
-    ensures { Is (open_of area.old save.now) result area.new }
+pub fn open(area: &mut [u8], save: &[u8]) -> Result<(), Refusal>
+    ensures { Is (open_of area.old save.now) (told result) area.new }
 {
     if !form_right(save) {
-        return BAD_SAVE;
+        return Err(Refusal::BadSave);
     }
     let n = save[HEAD_SIZE] as usize;
     if area.len() != area_size(n) {
-        return SHAPE;
+        return Err(Refusal::Shape);
     }
     if !bodies_sound(save, n) {
-        return UNSOUND;
+        return Err(Refusal::Unsound);
     }
     if save[EDITION_AT] == EDITION_OLD {
         return open_old(area, save, n);
     }
     read_bodies(save, area, n);
-    0
+    Ok(())
 }

@@ -19,18 +19,19 @@ use calls::{DrainAnswer, HopAnswer, OwedAnswer, TakeAnswer};
 use coding::{DecodeAnswer, EncodeAnswer};
 use device::Device;
 use poll_count::PollAnswer;
+use refusal::told;
 use walk::WalkAnswer;
 
 pub fn pil_set_up(area: &mut [u8], items: &[u8]) -> u8
     ensures { Is (set_up_of area.old items.now) result area.new }
 {
-    set_up::set_up(area, items)
+    told(set_up::set_up(area, items))
 }
 
 pub fn pil_put(area: &mut [u8], frame: u64) -> u8
     ensures { Is (put_of area.old frame) result area.new }
 {
-    ends::put::put(area, frame)
+    told(ends::put::put(area, frame))
 }
 
 pub fn pil_take(area: &mut [u8]) -> TakeAnswer
@@ -54,7 +55,7 @@ pub fn pil_drain(area: &mut [u8], budget: u64) -> DrainAnswer
 pub fn pil_load(area: &mut [u8], device: u64, bytes: &[u8], end: u64) -> u8
     ensures { Is (load_of area.old device bytes.now end) result area.new }
 {
-    local_calls::load(area, device, bytes, end)
+    told(local_calls::load(area, device, bytes, end))
 }
 
 // The entry of the printer scripts, which rely on END: a load with 1.
@@ -67,25 +68,25 @@ pub fn pil_load_end(area: &mut [u8], device: u64, bytes: &[u8]) -> u8
 pub fn pil_status(area: &mut [u8], device: u64, status: u8) -> u8
     ensures { Is (status_of area.old device status) result area.new }
 {
-    local_calls::status(area, device, status)
+    told(local_calls::status(area, device, status))
 }
 
 pub fn pil_wish(area: &mut [u8], device: u64, wish: u64) -> u8
     ensures { Is (wish_of area.old device wish) result area.new }
 {
-    local_calls::wish(area, device, wish)
+    told(local_calls::wish(area, device, wish))
 }
 
 pub fn pil_key(area: &mut [u8], device: u64) -> u8
     ensures { Is (key_of area.old device) result area.new }
 {
-    local_calls::key(area, device)
+    told(local_calls::key(area, device))
 }
 
 pub fn pil_poll_status(area: &mut [u8], device: u64, status: u64) -> u8
     ensures { Is (poll_status_of area.old device status) result area.new }
 {
-    local_calls::poll_status(area, device, status)
+    told(local_calls::poll_status(area, device, status))
 }
 
 pub fn pil_owed(area: &[u8]) -> OwedAnswer
@@ -115,13 +116,13 @@ pub fn pil_poll_count(frame: u64) -> PollAnswer
 pub fn pil_save(area: &[u8], save: &mut [u8]) -> u8
     ensures { Is (save_of area.now save.old) result save.new }
 {
-    save::save(area, save)
+    told(save::save(area, save))
 }
 
 pub fn pil_open(area: &mut [u8], save: &[u8]) -> u8
     ensures { Is (open_of area.old save.now) result area.new }
 {
-    open::open(area, save)
+    told(open::open(area, save))
 }
 
 // The second witness: a frame past every device, without links.

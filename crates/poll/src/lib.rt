@@ -2,21 +2,20 @@
 // record lent beside it (02, f; 001, 2.12).
 #![tactic(auto)]
 
-ghost use Rattle.std.specs.Prelude.{◌≡◌, ◌<◌, length};
+ghost use Rattle.std.specs.Prelude.{◌≡◌, ◌<◌};
 ghost use Rattle.device.specs.Choose.{choose};
 ghost use Rattle.device.specs.Change.{assigning};
 ghost use Rattle.device.specs.Poll.{unassigned, ppe, ppd, ppu, answer};
 ghost use Rattle.device.specs.declared.Device.{Device};
-ghost use Rattle.record.specs.Record.{record_size};
 ghost use Rattle.state.specs.State.{with, in_record};
 
 use device::Device;
-use record::POLL_STATUS;
 use record::read::has_further;
+use record::{POLL_STATUS, SIZE};
 use state::State;
 
-pub fn ppe(state: State, rec: &[u8], sbbb: u8) -> State
-    requires { (length rec.now ≡ record_size) × (sbbb < 16) }
+pub fn ppe(state: State, rec: &[u8; SIZE], sbbb: u8) -> State
+    requires { sbbb < 16 }
     ensures { in_record rec.now result ≡ ppe (in_record rec.now state) sbbb }
 {
     if state.listener != 1 {
@@ -51,8 +50,7 @@ pub fn ppu(state: State) -> State
 }
 
 // What the device adds to the data bits of an IDY.
-pub fn answer(state: State, rec: &[u8]) -> u8
-    requires { length rec.now ≡ record_size }
+pub fn answer(state: State, rec: &[u8; SIZE]) -> u8
     ensures { result ≡ answer (in_record rec.now state) }
 {
     if Device::UNASSIGNED < state.assigned {

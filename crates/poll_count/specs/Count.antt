@@ -1,10 +1,9 @@
 -- The count over an IDY that came back from a poll (02, f): how many of its eight data bits are one, and the number of
 -- the lowest of them, read off the bits place by place.
-use Rattle.std.specs.Prelude.{ℕ, zero, suc, ◌+◌, cond, eqb}
+use Rattle.std.specs.Prelude.{ℕ, zero, suc, ◌+◌, cond, eqb, Option, Some, None}
 use Rattle.frame.specs.Decoding.{idy}
+use Rattle.frame.specs.declared.Message.{Message}
 use Rattle.frame.specs.Coding.{bad_frame, decode_of}
-use Rattle.frame.specs.declared.Decoded.{Decoded}
-use Rattle.frame.specs.declared.Decoded.TheVariants as decoder
 use Rattle.frame.specs.Bits.{data_bits, bit}
 use Rattle.poll_count.specs.declared.PollAnswer.{PollAnswer}
 
@@ -27,9 +26,9 @@ abbrev pub counted : ℕ → PollAnswer
 counted x = record { refusal = 0; ones = ones_in data_bits x; lowest = lowest_from 0 data_bits x }
 
 -- an IDY is counted, and every other frame refused, as is what is none
-abbrev pub counted_as : Decoded → PollAnswer
-counted_as (decoder.Of m) = cond (eqb m.kind idy) (counted m.offset) (no_count bad_frame)
-counted_as decoder.BadFrame = no_count bad_frame
+abbrev pub counted_as : Option Message → PollAnswer
+counted_as (Some m) = cond (eqb m.kind idy) (counted m.offset) (no_count bad_frame)
+counted_as None = no_count bad_frame
 
 abbrev pub poll_count : ℕ → PollAnswer
 poll_count f = counted_as (decode_of f)

@@ -3,8 +3,10 @@
 
 ghost use Rattle.std.specs.Prelude.{◌≡◌};
 ghost use Rattle.poll_count.specs.Count.{no_count, counted, poll_count};
+ghost use Rattle.refusal.specs.Refusal.{number};
 
-use frame::{BAD_FRAME, Decoded, IDY};
+use frame::IDY;
+use refusal::Refusal;
 
 // How many of an IDY's data bits are one, and the number of the lowest of them, 8 for none.
 #[repr(C)]
@@ -15,11 +17,11 @@ pub struct PollAnswer {
     pub lowest: u8,
 }
 
-fn no_count(refusal: u8) -> PollAnswer
-    ensures { result ≡ no_count refusal }
+fn no_count(refusal: Refusal) -> PollAnswer
+    ensures { result ≡ no_count (number refusal) }
 {
     PollAnswer {
-        refusal,
+        refusal: refusal.number(),
         ones: 0,
         lowest: 0,
     }
@@ -38,11 +40,8 @@ fn counted(bits: u8) -> PollAnswer
 pub fn poll_count(frame: u64) -> PollAnswer
     ensures { result ≡ poll_count frame }
 {
-    let Decoded::Of(message) = frame::decode(frame) else {
-        return no_count(BAD_FRAME);
-    };
-    if message.kind == IDY {
-        return counted(message.offset);
+    match frame::decode(frame) {
+        Some(message) if message.kind == IDY => counted(message.offset),
+        _ => no_count(Refusal::BadFrame),
     }
-    no_count(BAD_FRAME)
 }

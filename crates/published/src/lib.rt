@@ -10,9 +10,5 @@ ghost use Rattle.frame.specs.Decoding.{decoded};
 pub fn kind(frame: u64) -> u8
     ensures { result ≡ (decoded frame).kind }
 {
-    if frame < frame::FRAMES as u64 {
-        kinds::KINDS[frame as usize]
-    } else {
-        0
-    }
+    kinds::KINDS.get(frame as usize).copied().unwrap_or(0)
 }

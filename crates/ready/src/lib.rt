@@ -1,23 +1,22 @@
 // Ready frames (01, What a device does with a frame).
 #![tactic(auto)]
 
-ghost use Rattle.std.specs.Prelude.{◌≡◌, ◌<◌, length};
+ghost use Rattle.std.specs.Prelude.{◌≡◌, ◌<◌};
 ghost use Rattle.device.specs.Ready.{requested, polls, sst, nrd, aad};
 ghost use Rattle.device.specs.Take.{takes_simple};
 ghost use Rattle.frame.specs.Classes.{IsReady};
 ghost use Rattle.device.specs.declared.Device.{Device};
-ghost use Rattle.record.specs.Record.{record_size};
 ghost use Rattle.state.specs.State.{with, in_record, sent_from};
 
 use device::Device;
 use frame::Kind;
+use record::SIZE;
 use record::read::has;
 use reply::continues;
 use state::{Passed, State, sends};
 
 // SDA, SDI, SAI: the reply of a talker state, where the talker is addressed and has the ability.
-fn requested(state: State, rec: &[u8], frame: u16, ability: u8, talker: u8) -> Passed
-    requires { length rec.now ≡ record_size }
+fn requested(state: State, rec: &[u8; SIZE], frame: u16, ability: u8, talker: u8) -> Passed
     ensures { sent_from rec.now result ≡
         requested (in_record rec.now state) frame ability talker }
 {
@@ -40,8 +39,7 @@ fn polls(state: State) -> State
 }
 
 // The poll comes before the reply, so that the status byte goes out with no C1 of this device's.
-fn sst(state: State, rec: &[u8], frame: u16) -> Passed
-    requires { length rec.now ≡ record_size }
+fn sst(state: State, rec: &[u8; SIZE], frame: u16) -> Passed
     ensures { sent_from rec.now result ≡ sst (in_record rec.now state) frame }
 {
     if state.talker == Device::ADDRESSED {
@@ -63,8 +61,8 @@ fn nrd(state: State) -> State
 }
 
 // A configured device passes AAD on: taking it again would give two devices one address.
-fn aad(state: State, rec: &[u8], frame: u16, address: u8) -> Passed
-    requires { (length rec.now ≡ record_size) × (frame < 65535) }
+fn aad(state: State, rec: &[u8; SIZE], frame: u16, address: u8) -> Passed
+    requires { frame < 65535 }
     ensures { sent_from rec.now result ≡ aad (in_record rec.now state) frame address }
 {
     if state.configured == 0 {
@@ -77,8 +75,8 @@ fn aad(state: State, rec: &[u8], frame: u16, address: u8) -> Passed
 }
 
 // What a simple device does with a ready frame.
-pub fn ready(state: State, rec: &[u8], frame: u16) -> Passed
-    requires { (length rec.now ≡ record_size) × IsReady frame }
+pub fn ready(state: State, rec: &[u8; SIZE], frame: u16) -> Passed
+    requires { IsReady frame }
     ensures { sent_from rec.now result ≡ takes_simple (in_record rec.now state) frame }
 {
     match frame::kind_of(frame) {

@@ -4,6 +4,6 @@ pub mod Both
 pub mod Variants
 pub mod Parts
 pub mod Places
-pub mod Zeros
 pub mod Bytes
 pub mod Laws
+pub mod Whole

@@ -3,7 +3,7 @@ ghost use Rattle.std.specs.Prelude.{◌≡◌, length, get_or};
 ghost use Rattle.device.specs.Device.{has, has_further, talks};
 ghost use Rattle.record.specs.Record.{record_size, device_of};
 
-use crate::{ABILITIES, FURTHER, ID, LOAD};
+use crate::{ABILITIES, FURTHER, ID, LOAD, SIZE};
 use device::Device;
 
 // Whether its device has an ability.
@@ -37,18 +37,12 @@ pub fn id_at(rec: &[u8], at: u8) -> u8
     requires { length rec.now ≡ record_size }
     ensures { result ≡ get_or (device_of rec.now).id at 0 }
 {
-    let i = at as usize;
-    if i < Device::MOST_ID { rec[ID + i] } else { 0 }
+    rec[ID..LOAD].get(at as usize).copied().unwrap_or(0)
 }
 
 pub fn load_at(rec: &[u8], at: u8) -> u8
     requires { length rec.now ≡ record_size }
     ensures { result ≡ get_or (device_of rec.now).load at 0 }
 {
-    let i = at as usize;
-    if i < Device::MOST_DATA {
-        rec[LOAD + i]
-    } else {
-        0
-    }
+    rec[LOAD..SIZE].get(at as usize).copied().unwrap_or(0)
 }

@@ -9,8 +9,9 @@ use Rattle.device.specs.PowerOn.{bytes_from}
 use Rattle.device.specs.Change.{loadlength, sent, choice, status, service, remote, loading, statusing, serving}
 use Rattle.device.specs.Change.{remoting, pollstatus, pollstatusing}
 use Rattle.device.specs.declared.Device.{Device}
-use Rattle.record.specs.Record.{device_of, record_of}
-use Rattle.record.specs.Written.{IsRecord}
+use Rattle.record.specs.Record.{record_size, device_of, record_of}
+use Rattle.record.specs.Fits.{Bytes}
+use Rattle.record.proofs.Laws.{record_back}
 use Rattle.record_local.specs.Local.{Called, accepted, refused}
 use Rattle.record_local.specs.InPlace.{InPlace}
 
@@ -37,24 +38,24 @@ module _ (d : Device) where
   unfolding record_of
   poll_status_put x = refl
 
--- a record b of bytes
-module _ (b : List ℕ) (i : IsRecord b) where
+-- 64 bytes are a record, b
+module _ (b : List ℕ) (long : length b ≡ record_size) (small : Bytes b) where
   pub data_written : (bs : List ℕ) (e : ℕ) →
       let c = set (set (set b loadlength (length bs)) sent 0) choice e in
       take 32 c ++ (bytes_from 0 32 bs ++ drop 32 (drop 32 c)) ≡ record_of (loading (device_of b) bs e)
-  data_written bs e = rw i.whole at (data_put (device_of b) bs e)
+  data_written bs e = rw (record_back b long small) at (data_put (device_of b) bs e)
 
   pub status_written : (s : ℕ) → set b status s ≡ record_of (statusing (device_of b) s)
-  status_written s = rw i.whole at (status_put (device_of b) s)
+  status_written s = rw (record_back b long small) at (status_put (device_of b) s)
 
   pub service_written : (x : ℕ) → set b service x ≡ record_of (serving (device_of b) x)
-  service_written x = rw i.whole at (service_put (device_of b) x)
+  service_written x = rw (record_back b long small) at (service_put (device_of b) x)
 
   pub remote_written : (x : ℕ) → set b remote x ≡ record_of (remoting (device_of b) x)
-  remote_written x = rw i.whole at (remote_put (device_of b) x)
+  remote_written x = rw (record_back b long small) at (remote_put (device_of b) x)
 
   pub poll_status_written : (x : ℕ) → set b pollstatus x ≡ record_of (pollstatusing (device_of b) x)
-  poll_status_written x = rw i.whole at (poll_status_put (device_of b) x)
+  poll_status_written x = rw (record_back b long small) at (poll_status_put (device_of b) x)
 
 -- a refused call leaves the record b as it was, and an accepted one leaves that of its device
 module _ (b : List ℕ) where

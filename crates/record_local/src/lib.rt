@@ -7,21 +7,16 @@ ghost use Rattle.device.specs.Device.{end_last, most_data};
 ghost use Rattle.device.specs.PowerOn.{bytes_from};
 ghost use Rattle.device.specs.Change.{loading};
 ghost use Rattle.record.specs.Record.{device_of, record_of};
-ghost use Rattle.record.specs.Written.{IsRecord};
 ghost use Rattle.record_local.specs.Local.{loads, sets_status, wishing, wishes, presses, yes_or_no};
 ghost use Rattle.record_local.specs.Local.{sets_poll_status};
 ghost use Rattle.record_local.specs.InPlace.{InPlace};
+ghost use Rattle.refusal.specs.Refusal.{told};
 
 use device::Device;
 use record::read::{has, has_further};
 use record::{CHOICE, LOAD, LOAD_LENGTH, POLL_STATUS, REMOTE, SENT, SERVICE, SIZE, STATUS, TALKER};
 use record_write::clear;
-
-const NO_ABILITY: u8 = 7;
-
-const TOO_LONG: u8 = 8;
-
-const BUSY: u8 = 9;
+use refusal::Refusal;
 
 // The bytes, and zeros behind them.
 fn fill(to: &mut [u8], bytes: &[u8])
@@ -32,8 +27,8 @@ fn fill(to: &mut [u8], bytes: &[u8])
     byte_runs::copy(bytes, to);
 }
 
-fn loading(rec: &mut [u8], bytes: &[u8], choice: u8)
-    requires { IsRecord rec.old × (length bytes.now ≤ most_data) }
+fn loading(rec: &mut [u8; SIZE], bytes: &[u8], choice: u8)
+    requires { length bytes.now ≤ most_data }
     ensures { rec.new ≡ record_of (loading (device_of rec.old) bytes.now choice) }
 {
     rec[LOAD_LENGTH] = bytes.len() as u8;
@@ -43,39 +38,37 @@ fn loading(rec: &mut [u8], bytes: &[u8], choice: u8)
 }
 
 // Load data, by a choice of 0 or 1: the caller has refused the rest.
-pub fn load(rec: &mut [u8], bytes: &[u8], choice: u8) -> u8
-    requires { IsRecord rec.old × (choice ≤ end_last) }
-    ensures { InPlace rec.old (loads (device_of rec.old) bytes.now choice) result
+pub fn load(rec: &mut [u8; SIZE], bytes: &[u8], choice: u8) -> Result<(), Refusal>
+    requires { choice ≤ end_last }
+    ensures { InPlace rec.old (loads (device_of rec.old) bytes.now choice) (told result)
         rec.new }
 {
     if has(rec, Device::SEND_DATA) {
         if Device::MOST_DATA < bytes.len() {
-            return TOO_LONG;
+            return Err(Refusal::TooLong);
         }
         if rec[TALKER] == Device::SENDING_DATA {
-            return BUSY;
+            return Err(Refusal::Busy);
         }
         loading(rec, bytes, choice);
-        return 0;
+        return Ok(());
     }
-    NO_ABILITY
+    Err(Refusal::NoAbility)
 }
 
 // Set status.
-pub fn status(rec: &mut [u8], status: u8) -> u8
-    requires { IsRecord rec.old }
-    ensures { InPlace rec.old (sets_status (device_of rec.old) status) result
+pub fn status(rec: &mut [u8; SIZE], status: u8) -> Result<(), Refusal>
+    ensures { InPlace rec.old (sets_status (device_of rec.old) status) (told result)
         rec.new }
 {
     if has(rec, Device::STATUS) {
         rec[STATUS] = status;
-        return 0;
+        return Ok(());
     }
-    NO_ABILITY
+    Err(Refusal::NoAbility)
 }
 
-fn wishing(rec: &mut [u8], wish: u64)
-    requires { IsRecord rec.old }
+fn wishing(rec: &mut [u8; SIZE], wish: u64)
     ensures { rec.new ≡ record_of (wishing (device_of rec.old) wish) }
 {
     if wish == 0 {
@@ -89,27 +82,25 @@ fn wishing(rec: &mut [u8], wish: u64)
 }
 
 // Wish for service.
-pub fn wish(rec: &mut [u8], wish: u64) -> u8
-    requires { IsRecord rec.old }
-    ensures { InPlace rec.old (wishes (device_of rec.old) wish) result rec.new }
+pub fn wish(rec: &mut [u8; SIZE], wish: u64) -> Result<(), Refusal>
+    ensures { InPlace rec.old (wishes (device_of rec.old) wish) (told result) rec.new }
 {
     if has(rec, Device::SERVICE_REQUEST) {
         wishing(rec, wish);
-        return 0;
+        return Ok(());
     }
-    NO_ABILITY
+    Err(Refusal::NoAbility)
 }
 
 // Press the panel key.
-pub fn key(rec: &mut [u8]) -> u8
-    requires { IsRecord rec.old }
-    ensures { InPlace rec.old (presses (device_of rec.old)) result rec.new }
+pub fn key(rec: &mut [u8; SIZE]) -> Result<(), Refusal>
+    ensures { InPlace rec.old (presses (device_of rec.old)) (told result) rec.new }
 {
     if rec[REMOTE] == Device::REMS {
         rec[REMOTE] = Device::LOCS;
-        return 0;
+        return Ok(());
     }
-    0
+    Ok(())
 }
 
 // Any number but 0 is yes.
@@ -123,14 +114,13 @@ fn yes_or_no(status: u64) -> u8
 }
 
 // Set the poll status.
-pub fn poll_status(rec: &mut [u8], status: u64) -> u8
-    requires { IsRecord rec.old }
-    ensures { InPlace rec.old (sets_poll_status (device_of rec.old) status) result
+pub fn poll_status(rec: &mut [u8; SIZE], status: u64) -> Result<(), Refusal>
+    ensures { InPlace rec.old (sets_poll_status (device_of rec.old) status) (told result)
         rec.new }
 {
     if has_further(rec, Device::PARALLEL_POLL) {
         rec[POLL_STATUS] = yes_or_no(status);
-        return 0;
+        return Ok(());
     }
-    NO_ABILITY
+    Err(Refusal::NoAbility)
 }

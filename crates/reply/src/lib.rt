@@ -1,20 +1,19 @@
 // The replies of a talker (01, What a device does with a frame, from "Reply bytes are DAB"; 02, h).
 #![tactic(auto)]
 
-ghost use Rattle.std.specs.Prelude.{◌≡◌, ◌*◌, ◌≤◌, ◌<◌, length};
+ghost use Rattle.std.specs.Prelude.{◌≡◌, ◌*◌, ◌≤◌, ◌<◌};
 ghost use Rattle.frame.specs.Messages.{frames};
 ghost use Rattle.frame.specs.Decoding.{c1_adds, frame_of};
 ghost use Rattle.frame.specs.declared.Message.{Message};
 ghost use Rattle.device.specs.Reply.{marked, stops, data_frame, other_byte, other_length, sends_data, sends_other};
 ghost use Rattle.device.specs.Reply.{continues};
 ghost use Rattle.device.specs.declared.Device.{Device};
-ghost use Rattle.record.specs.Record.{record_size};
 ghost use Rattle.state.specs.State.{with, in_record, sent_with, sent_from};
 
 use device::Device;
 use frame::{C1, C2};
 use record::read::{id_at, load_at};
-use record::{ACCESSORY, CHOICE, ID_LENGTH, LOAD_LENGTH, STATUS};
+use record::{ACCESSORY, CHOICE, ID_LENGTH, LOAD_LENGTH, SIZE, STATUS};
 use state::{Passed, State, sends};
 
 pub const ETO: u16 = 0x540;
@@ -43,8 +42,8 @@ pub fn stops(state: State, answer: u16) -> Passed
     sends(state.talking(Device::ADDRESSED), answer)
 }
 
-fn data_frame(state: State, rec: &[u8]) -> u16
-    requires { (length rec.now ≡ record_size) × (state.sent < 255) }
+fn data_frame(state: State, rec: &[u8; SIZE]) -> u16
+    requires { state.sent < 255 }
     ensures { result ≡ data_frame (in_record rec.now state) }
 {
     let byte = load_at(rec, state.sent) as u16;
@@ -54,8 +53,7 @@ fn data_frame(state: State, rec: &[u8]) -> u16
     marked(state, byte, 0)
 }
 
-fn other_byte(state: State, rec: &[u8]) -> u8
-    requires { length rec.now ≡ record_size }
+fn other_byte(state: State, rec: &[u8; SIZE]) -> u8
     ensures { result ≡ other_byte (in_record rec.now state) }
 {
     if state.talker == Device::SENDING_STATUS {
@@ -67,8 +65,7 @@ fn other_byte(state: State, rec: &[u8]) -> u8
     rec[ACCESSORY]
 }
 
-fn other_length(state: State, rec: &[u8]) -> u8
-    requires { length rec.now ≡ record_size }
+fn other_length(state: State, rec: &[u8; SIZE]) -> u8
     ensures { result ≡ other_length (in_record rec.now state) }
 {
     if state.talker == Device::SENDING_DEVICE_ID {
@@ -77,16 +74,16 @@ fn other_length(state: State, rec: &[u8]) -> u8
     1
 }
 
-fn send_data(state: State, rec: &[u8]) -> Passed
-    requires { (length rec.now ≡ record_size) × (state.sent < 255) }
+fn send_data(state: State, rec: &[u8; SIZE]) -> Passed
+    requires { state.sent < 255 }
     ensures { sent_from rec.now result ≡ sends_data (in_record rec.now state) }
 {
     let frame = data_frame(state, rec);
     sends(state.counting(frame, state.sent + 1, state.replied), frame)
 }
 
-fn send_other(state: State, rec: &[u8]) -> Passed
-    requires { (length rec.now ≡ record_size) × (state.replied < 255) }
+fn send_other(state: State, rec: &[u8; SIZE]) -> Passed
+    requires { state.replied < 255 }
     ensures { sent_from rec.now result ≡ sends_other (in_record rec.now state) }
 {
     let byte = other_byte(state, rec) as u16;
@@ -95,8 +92,7 @@ fn send_other(state: State, rec: &[u8]) -> Passed
 }
 
 // The next byte of the reply, or ETO if nothing is left.
-pub fn continues(state: State, rec: &[u8]) -> Passed
-    requires { length rec.now ≡ record_size }
+pub fn continues(state: State, rec: &[u8; SIZE]) -> Passed
     ensures { sent_from rec.now result ≡ continues (in_record rec.now state) }
 {
     if state.talker == Device::SENDING_DATA {

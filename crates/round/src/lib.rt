@@ -32,11 +32,9 @@ fn hops(area: &mut [u8], out: &mut [u8]) -> usize
 {
     let n = devices_in(area);
     let mut at = 0;
-    let mut i = 0;
-    while i < n {
+    for i in 0..n {
         let hop = hop_at(area, i);
         at = hand(out, at, i, hop);
-        i += 1;
     }
     at
 }
@@ -47,7 +45,8 @@ pub fn round(area: &mut [u8], frame: u16, out: &mut [u8]) -> usize
     ensures area_after { area.new ≡ round_area frame area.old }
     ensures wrote { Wrote (round_text frame area.old) 0 out.old result out.new }
 {
-    put(area, frame as u64);
+    // From rest it is not refused (specs/Laws.antt, NeverRefused).
+    let _ = put(area, frame as u64);
     let at = hops(area, out);
     let taken = take(area);
     frame_line(out, at, frame, taken.frame)

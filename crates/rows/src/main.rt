@@ -3,19 +3,19 @@
 
 use area::{HEADER_SIZE, ITEM_SIZE, LARGEST, LINK_SIZE, MOST_DEVICES};
 use device::Device;
-use print::{decimal, hex, text};
+use print::hex;
 use record::{LOAD_LENGTH, TALKER};
 use std::io;
 
 fn main(rt: HostRuntime) -> io::Result<()> {
-    text(&rt, b"codes\n")?;
+    println!(rt; "codes")?;
     decoded(&rt, 2047)?;
     decoded(&rt, 2048)?;
-    text(&rt, b"device\n")?;
+    println!(rt; "device")?;
     no_data(&rt)?;
     loaded(&rt, b"12345678901234567890123456789012")?;
     loaded(&rt, b"123456789012345678901234567890123")?;
-    text(&rt, b"loop\n")?;
+    println!(rt; "loop")?;
     most_devices(&rt)?;
     one_too_many(&rt)?;
     puts(&rt)?;
@@ -24,25 +24,11 @@ fn main(rt: HostRuntime) -> io::Result<()> {
 
 fn decoded(rt: &impl Print, frame: u64) -> io::Result<()> {
     let answer = pil::pil_decode(frame);
-    text(rt, b"decode ")?;
-    decimal(rt, frame)?;
-    refusal(rt, answer.refusal)?;
-    text(rt, b", kind ")?;
-    byte(rt, answer.kind)?;
-    text(rt, b", offset ")?;
-    decimal(rt, answer.offset as u64)?;
-    text(rt, b", C1 ")?;
-    byte(rt, answer.c1)?;
-    text(rt, b"\n")
-}
-
-fn byte(rt: &impl Print, number: u8) -> io::Result<()> {
-    decimal(rt, number as u64)
-}
-
-fn refusal(rt: &impl Print, number: u8) -> io::Result<()> {
-    text(rt, b": refusal ")?;
-    byte(rt, number)
+    print!(rt;
+        "decode {frame}: refusal {}, kind {}",
+        answer.refusal, answer.kind
+    )?;
+    println!(rt; ", offset {}, C1 {}", answer.offset, answer.c1)
 }
 
 // A loop of one device: abilities ff, fixed address 1f, as in 01's rows.
@@ -65,34 +51,29 @@ fn no_data(rt: &impl Print) -> io::Result<()> {
     sent(&mut area, 0x580);
     sent(&mut area, 0x440);
     let answer = sent(&mut area, 0x560);
-    text(rt, b"560 with no data: ")?;
-    hex(rt, answer as u64)?;
-    text(rt, b", talker ")?;
-    byte(rt, area[HEADER_SIZE + TALKER])?;
-    text(rt, b"\n")
+    let talker = area[HEADER_SIZE + TALKER];
+    println!(rt; "560 with no data: {}, talker {talker}", hex(answer as u64))
 }
 
 fn loaded(rt: &impl Print, bytes: &[u8]) -> io::Result<()> {
     let mut area = [0u8; 92];
     alone(&mut area);
-    let answer = pil::pil_load(&mut area, 0, bytes, Device::PLAIN_LAST as u64);
-    text(rt, b"load ")?;
-    decimal(rt, bytes.len() as u64)?;
-    refusal(rt, answer)?;
-    text(rt, b", data length ")?;
-    byte(rt, area[HEADER_SIZE + LOAD_LENGTH])?;
-    text(rt, b"\n")
+    let refusal = pil::pil_load(&mut area, 0, bytes, Device::PLAIN_LAST as u64);
+    let length = area[HEADER_SIZE + LOAD_LENGTH];
+    println!(rt;
+        "load {}: refusal {refusal}, data length {length}",
+        bytes.len()
+    )
 }
 
 // A loop of devices that can do nothing.
 fn set_up(rt: &impl Print, area: &mut [u8], items: &[u8]) -> io::Result<()> {
-    let answer = pil::pil_set_up(area, items);
-    decimal(rt, items.len() as u64 / 12)?;
-    text(rt, b" devices in ")?;
-    decimal(rt, area.len() as u64)?;
-    text(rt, b" bytes")?;
-    refusal(rt, answer)?;
-    text(rt, b"\n")
+    let refusal = pil::pil_set_up(area, items);
+    let devices = items.len() / ITEM_SIZE;
+    println!(rt;
+        "{devices} devices in {} bytes: refusal {refusal}",
+        area.len()
+    )
 }
 
 fn most_devices(rt: &impl Print) -> io::Result<()> {
@@ -108,17 +89,14 @@ fn one_too_many(rt: &impl Print) -> io::Result<()> {
 }
 
 fn put(rt: &impl Print, area: &mut [u8], frame: u64) -> io::Result<()> {
-    let answer = pil::pil_put(area, frame);
-    text(rt, b"put ")?;
-    decimal(rt, frame)?;
-    refusal(rt, answer)?;
-    text(rt, b"\n")
+    let refusal = pil::pil_put(area, frame);
+    println!(rt; "put {frame}: refusal {refusal}")
 }
 
 // The highest frame, and one too high.
 fn puts(rt: &impl Print) -> io::Result<()> {
     let mut area = [0u8; 92];
-    let items = [0u8; 12];
+    let items = [0u8; ITEM_SIZE];
     set_up(rt, &mut area, &items)?;
     put(rt, &mut area, 2047)?;
     put(rt, &mut area, 2048)
@@ -127,23 +105,21 @@ fn puts(rt: &impl Print) -> io::Result<()> {
 // A link takes four frames, and no fifth until a hop has made room, which is used again.
 fn five(rt: &impl Print) -> io::Result<()> {
     let mut area = [0u8; 92];
-    let items = [0u8; 12];
+    let items = [0u8; ITEM_SIZE];
     set_up(rt, &mut area, &items)?;
-    put(rt, &mut area, 1)?;
-    put(rt, &mut area, 2)?;
-    put(rt, &mut area, 3)?;
-    put(rt, &mut area, 4)?;
-    put(rt, &mut area, 5)?;
+    for frame in 1..=5 {
+        put(rt, &mut area, frame)?;
+    }
     hop(rt, &mut area, 0)?;
     put(rt, &mut area, 5)
 }
 
 fn hop(rt: &impl Print, area: &mut [u8], device: u64) -> io::Result<()> {
     let answer = pil::pil_hop(area, device);
-    text(rt, b"hop ")?;
-    decimal(rt, device)?;
-    refusal(rt, answer.refusal)?;
-    text(rt, b", frame ")?;
-    hex(rt, answer.frame as u64)?;
-    text(rt, b"\n")
+    let frame = answer.frame as u64;
+    println!(rt;
+        "hop {device}: refusal {}, frame {}",
+        answer.refusal,
+        hex(frame)
+    )
 }

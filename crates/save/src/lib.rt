@@ -9,10 +9,13 @@ ghost use Rattle.calls.specs.Outcome.{Is};
 ghost use Rattle.area.specs.Sizes.{header_size};
 ghost use Rattle.saved.specs.Saved.{header_kind, head_size, recorded, with_edition, saved_size, saved};
 ghost use Rattle.saved.specs.Calls.{save_of};
+ghost use Rattle.refusal.specs.Refusal.{told};
 
-use area::{HEADER_SIZE, LINK_SIZE, SHAPE, UNSOUND};
+use area::runs::make_parts;
+use area::{HEADER_SIZE, LINK_SIZE};
 use judge::contents::contents_sound;
 use judge::shape_right;
+use refusal::Refusal;
 use saved::{
     DEVICE, EDITION_AT, EDITION_NOW, HEAD_SIZE, HEADER, HEADER_RECORD, LINK, fill, head_of,
     links_at, saved_size,
@@ -43,16 +46,9 @@ fn write_run(bodies: &[u8], to: &mut [u8], kind: u8, size: usize, count: usize)
         (length to.old ≡ (head_size + size) * count) }
     ensures { to.new ≡ join (map (recorded kind) (parts size count bodies.now)) }
 {
-    let mut rest = &bodies[..];
-    let mut at = 0;
-    let mut left = count;
-    while left > 0 {
-        let end = at + HEAD_SIZE + size;
-        write_record(&mut to[at..end], kind, &rest[..size]);
-        rest = &rest[size..];
-        at = end;
-        left -= 1;
-    }
+    make_parts(bodies, size, to, HEAD_SIZE + size, count, |body, record| {
+        write_record(record, kind, body)
+    });
 }
 
 // The records of an area of n devices: its header's, the devices', the links'.
@@ -73,19 +69,19 @@ fn write_records(area: &[u8], out: &mut [u8], n: usize)
     write_run(&area[links..], &mut out[at..], LINK, LINK_SIZE, n + 1);
 }
 
-pub fn save(area: &[u8], out: &mut [u8]) -> u8
-    ensures { Is (save_of area.now out.old) result out.new }
+pub fn save(area: &[u8], out: &mut [u8]) -> Result<(), Refusal>
+    ensures { Is (save_of area.now out.old) (told result) out.new }
 {
     if !shape_right(area) {
-        return SHAPE;
+        return Err(Refusal::Shape);
     }
     let n = area[0] as usize;
     if out.len() != saved_size(n) {
-        return SHAPE;
+        return Err(Refusal::Shape);
     }
     if !contents_sound(area) {
-        return UNSOUND;
+        return Err(Refusal::Unsound);
     }
     write_records(area, out, n);
-    0
+    Ok(())
 }

@@ -2,8 +2,8 @@
 -- header's is put there and taken away.
 use mathlib.Core.Path.{◌≡◌, refl, sym, ap, ◌∙◌}
 use mathlib.Core.List.{List, [], ◌∷◌, map}
-use mathlib.Core.Bool.{true, ◌&&◌}
-use Prim.Native.Nat.{ℕ, suc, ◌+◌, ◌-◌, ◌/◌, ◌%◌, ◌≤◌, ◌<◌}
+use mathlib.Core.Bool.{true}
+use Prim.Native.Nat.{ℕ, suc, ◌+◌, ◌/◌, ◌%◌, ◌≤◌, ◌<◌}
 use native.Mathlib.Omega.{arith}
 use lib.Dec.{eqb}
 use lib.ListN.{length, get_or, set, take, drop, length-append, length-drop, length-set, take-append-drop}
@@ -11,7 +11,6 @@ use lib.Seq.{drop_at, drop-cons, drop-set-add, get_or-drop, set-get_or, set-set}
 use borrow.Author.Tests.{eq-eqb, eqb-true}
 use Rattle.record.proofs.Both.{left, right}
 use Rattle.area.specs.Parts.{all}
-use Rattle.area.proofs.Links.{and-true}
 use Rattle.area.proofs.Each.{each_all, each_again}
 use Rattle.saved.specs.Saved.{head_size, head_of, recorded, body, edition_at, with_edition, without_edition, stands}
 use Rattle.saved.specs.Saved.{is_of}
@@ -86,36 +85,6 @@ with_again k r t l e =
     let b : set (set (body r) 1 0) 1 1 ≡ body r =
     set-set (body r) 1 0 1 ∙ ap (λ (x : ℕ). set (body r) 1 x) (sym m) ∙ set-get_or (body r) 1 0 in
     edition_recorded k (without_edition (body r)) ∙ ap (recorded k) b ∙ recorded_body k r t l
-
--- the tests of a head, byte by byte, with what each is compared with
-pub head_tests : (k : ℕ) (r : List ℕ) (a b c d e f : ℕ) → length r < 256 → k < 256 → a ≡ length r - head_size → b ≡ 0 →
-    c ≡ 0 → d ≡ 0 → e ≡ k → f ≡ 0 →
-    (eqb (get_or r 0 0) a && (eqb (get_or r 1 0) b && (eqb (get_or r 2 0) c && (eqb (get_or r 3 0) d && (eqb (get_or r 4 0) e &&
-    eqb (get_or r 5 0) f))))) ≡ is_of k r
-unfolding is_of stands
-head_tests k r a b c d e f h i p q s t u v =
-    rw (length-drop, ← (head_small k (length r - head_size) (omega arith) i), p, q, s, t, u, v) (simp and-true)
-
--- the bytes of a head
-pub record Head (k n : ℕ) (h : List ℕ) : Type 0 where
-  pub length_low : get_or h 0 0 ≡ n
-  pub length_next : get_or h 1 0 ≡ 0
-  pub length_third : get_or h 2 0 ≡ 0
-  pub length_high : get_or h 3 0 ≡ 0
-  pub kind_low : get_or h 4 0 ≡ k
-  pub kind_high : get_or h 5 0 ≡ 0
-
-pub head_bytes : (k n : ℕ) (h : List ℕ) → n < 256 → k < 256 → h ≡ head_of k n → Head k n h
-head_bytes k n h l m e =
-    rw (e, ← (head_small k n l m))
-    (record {
-      length_low = refl;
-      length_next = refl;
-      length_third = refl;
-      length_high = refl;
-      kind_low = refl;
-      kind_high = refl;
-    })
 
 -- ---- all the records of a run
 

@@ -1,13 +1,11 @@
--- A slice filled from its start: by one copy, and by a run of parts, each made of a part of other bytes.
+-- A slice filled from its start by one copy, and the bytes of a part given back to the whole.
 use mathlib.Core.Path.{◌≡◌, refl, sym, ◌∙◌}
-use mathlib.Core.List.{List, [], ◌∷◌, ◌++◌, map, append_assoc, append-nil}
-use Prim.Native.Nat.{ℕ, zero, suc, ◌+◌, ◌-◌, ◌*◌, ◌≤◌, ◌<◌}
+use mathlib.Core.List.{List, [], ◌∷◌, ◌++◌, append_assoc, append-nil}
+use Prim.Native.Nat.{ℕ, zero, suc, ◌+◌, ◌-◌, ◌≤◌}
 use native.Mathlib.Omega.{arith}
-use native.Mathlib.Nat.{zero-add, suc-add, mul-suc, mul-zero, not-suc-le-zero}
+use native.Mathlib.Nat.{zero-add, suc-add}
 use lib.ListN.{length, take, drop, length-append, length-drop, drop_of_length-le}
 use lib.Seq.{length-take-le, take_all, take_at, drop_at, take-nil, drop-nil}
-use Rattle.area.specs.Parts.{parts, join}
-use Rattle.area.proofs.Parts.{rest_is}
 
 -- ---- a copy
 
@@ -89,51 +87,3 @@ headed m h b to to₁ new hm l e n =
     let w : length to₁ ≡ m + length b = rw t (simp (length-append, length-drop) (omega arith)) in
     let f : take m to₁ ≡ h = rw t (take_at h (drop m to) m hm) in
     rw n (given_last m (length to₁) to₁ b (omega arith) (omega arith) refl ∙ rw f)
-
--- ---- a run: f makes a part of v bytes of one of w bytes
-
-module _ (f : List ℕ → List ℕ) (w v size : ℕ) (all : List ℕ) where
-  -- k parts are left, in `rest`; what is written so far, and what is made of them, is all
-  pub record Run (k : ℕ) (rest : List ℕ) (at : ℕ) (to : List ℕ) : Type 0 where
-    pub long : w * k ≤ length rest
-    pub room : at + v * k ≡ size
-    pub kept : length to ≡ size
-    pub same : take at to ++ join (map f (parts w k rest)) ≡ all
-
-  -- the next part is there, and there is room for it
-  pub fits : (k : ℕ) (rest : List ℕ) (at : ℕ) (to : List ℕ) → Run k rest at to → 0 < k →
-      (w ≤ length rest) × (at + v ≤ length to)
-  fits zero rest at to r h = absurd (not-suc-le-zero h)
-  fits (suc k) rest at to r h =
-      let x = mul-suc w k in
-      let y = mul-suc v k in
-      (omega (arith, r.long), omega (arith, r.room, r.kept))
-
-  pub next : (k : ℕ) (rest : List ℕ) (at : ℕ) (to : List ℕ) → Run k rest at to → 0 < k →
-      ((p : List ℕ) → length p ≡ w → length (f p) ≡ v) → (end : ℕ) (new : List ℕ) → end ≡ at + v →
-      new ≡ f (take w rest) → Run (k - 1) (take (length rest - w) (drop w rest)) end (given at end new to)
-  unfolding parts join
-  next zero rest at to r h wide end new e n = absurd (not-suc-le-zero h)
-  next (suc k) rest at to r h wide end new e n =
-      let x = mul-suc w k in
-      let y = mul-suc v k in
-      let l = r.long in
-      let m = r.room in
-      let q = r.kept in
-      let s : at + length new ≡ end =
-      rw (n, wide (take w rest) (length-take-le w rest (omega arith))) (omega arith) in
-      let d : suc k - 1 ≡ k = omega arith in
-      rw (rest_is w rest, d)
-      (record {
-        long = simp length-drop (omega arith);
-        room = omega arith;
-        kept = given_long at end to new s (omega arith) ∙ q;
-        same = rw (given_so_far at end to new s (omega arith), append_assoc, n) r.same;
-      })
-
-  pub ends : (k : ℕ) (rest : List ℕ) (at : ℕ) (to : List ℕ) → Run k rest at to → k ≤ 0 → to ≡ all
-  unfolding parts join
-  ends zero rest at to r h =
-      let z = mul-zero v in
-      sym (take_all at to (omega (arith, r.room, r.kept))) ∙ sym (append-nil (take at to)) ∙ r.same
-  ends (suc k) rest at to r h = absurd (not-suc-le-zero h)

@@ -25,9 +25,6 @@ pub const EDITION_OLD: u8 = 0;
 
 pub const EDITION_NOW: u8 = 1;
 
-// Refusal: not the form of a save.
-pub const BAD_SAVE: u8 = 10;
-
 // The kinds of record.
 pub const HEADER: u8 = 1;
 

@@ -1,12 +1,10 @@
 -- What the lines of a script say (01, the lister): line 1 the devices of the loop, each later line a frame.
-use Rattle.std.specs.Prelude.{ℕ, ◌+◌, ◌-◌, ◌*◌, ◌/◌, List, ◌∷◌, map, Bool, ◌&&◌, cond, eqb, ltb, length, get_or, drop, replicate}
+use Rattle.std.specs.Prelude.{ℕ, ◌+◌, ◌-◌, ◌*◌, ◌/◌, List, ◌∷◌, map, Bool, ◌&&◌, cond, eqb, ltb, length, get_or, drop, replicate, Option, Some, None}
 use Rattle.frame.specs.Messages.{frames}
 use Rattle.area.specs.Sizes.{item_size, most_devices, is_count}
 use Rattle.area.specs.Parts.{parts, join, all}
 use Rattle.text.specs.Words.{space, loop_word, begins}
 use Rattle.text.specs.Digits.{are_digits, number_at}
-use Rattle.script.specs.declared.FrameLine.{FrameLine}
-use Rattle.script.specs.declared.LoopLine.{LoopLine}
 
 -- ---- line 1
 
@@ -41,11 +39,11 @@ abbrev pub items_in : List ℕ → List ℕ
 items_in line = join (map item_of (groups_in line))
 
 -- the devices of line 1, where there are as many as a loop can have
-abbrev pub loop_in : List ℕ → LoopLine
+abbrev pub loop_in : List ℕ → Option ℕ
 loop_in line =
     cond (loop_right line && is_count most_devices (devices_in line))
-    (LoopLine.Devices (devices_in line))
-    LoopLine.Wrong
+    (Some (devices_in line))
+    None
 
 -- ---- the later lines
 
@@ -53,5 +51,5 @@ loop_in line =
 unfoldable pub frame_right : List ℕ → Bool
 frame_right line = eqb (length line) 3 && (are_digits 0 3 line && ltb (number_at 0 3 line) frames)
 
-abbrev pub frame_in : List ℕ → FrameLine
-frame_in line = cond (frame_right line) (FrameLine.Frame (number_at 0 3 line)) FrameLine.Wrong
+abbrev pub frame_in : List ℕ → Option ℕ
+frame_in line = cond (frame_right line) (Some (number_at 0 3 line)) None

@@ -9,22 +9,9 @@ ghost use Rattle.text.specs.Digits.{digit_of};
 ghost use Rattle.script.specs.Script.{group_size, group_right, item_of, loop_in, frame_in};
 ghost use Rattle.text.specs.Write.{Wrote};
 
+use area::runs::all_parts;
 use area::{ITEM_SIZE, is_count};
 use text::put;
-
-// What a frame line says.
-#[derive(Clone, Copy)]
-pub enum FrameLine {
-    Frame(u16),
-    Wrong,
-}
-
-// What line 1 says: the number of devices.
-#[derive(Clone, Copy)]
-pub enum LoopLine {
-    Devices(usize),
-    Wrong,
-}
 
 // Bytes of line 1 before the devices, and of each device.
 pub const WORD_SIZE: usize = 4;
@@ -44,39 +31,30 @@ pub fn digit(b: u8) -> u8
     16
 }
 
-// The frame of a line.
-pub fn frame_in(line: &[u8]) -> FrameLine
+// The frame of a line, if it is one.
+#[tactic(auto, unfolding(crate::specs::Script::frame_right))]
+pub fn frame_in(line: &[u8]) -> Option<u16>
     ensures { result ≡ frame_in line.now }
 {
     if line.len() != 3 {
-        return FrameLine::Wrong;
+        return None;
     }
     let a = digit(line[0]) as usize;
     let b = digit(line[1]) as usize;
     let c = digit(line[2]) as usize;
     let frame = 16 * (16 * a + b) + c;
     if (a < 16) & ((b < 16) & ((c < 16) & (frame < frame::FRAMES))) {
-        let number = frame as u16;
-        return FrameLine::Frame(number);
+        Some(frame as u16)
+    } else {
+        None
     }
-    FrameLine::Wrong
 }
 
 // A line begins with a word.
 pub fn begins(line: &[u8], word: &[u8]) -> bool
     ensures { result ≡ Words·begins word.now line.now }
 {
-    let mut i = 0;
-    while i < word.len() {
-        if i >= line.len() {
-            return false;
-        }
-        if line[i] != word[i] {
-            return false;
-        }
-        i += 1;
-    }
-    true
+    line.starts_with(word)
 }
 
 // A device's bytes are a space and four digits.
@@ -92,36 +70,25 @@ fn groups_right(groups: &[u8], n: usize) -> bool
     requires { group_size * n ≤ length groups.now }
     ensures { result ≡ all group_right (parts group_size n groups.now) }
 {
-    let mut rest = &groups[..];
-    let mut left = n;
-    while left > 0 {
-        if !group_right(&rest[..GROUP_SIZE]) {
-            return false;
-        }
-        rest = &rest[GROUP_SIZE..];
-        left -= 1;
-    }
-    true
+    all_parts(groups, GROUP_SIZE, n, group_right)
 }
 
-// The devices of line 1.
-pub fn loop_in(line: &[u8]) -> LoopLine
+// How many devices line 1 gives, if it is one.
+#[tactic(auto, using(crate::proofs::Scripts::has_word), unfolding(crate::specs::Script::loop_right))]
+pub fn loop_in(line: &[u8]) -> Option<usize>
     ensures { result ≡ loop_in line.now }
 {
     if !begins(line, b"loop") {
-        return LoopLine::Wrong;
+        return None;
     }
     let n = (line.len() - WORD_SIZE) / GROUP_SIZE;
     if line.len() != WORD_SIZE + GROUP_SIZE * n {
-        return LoopLine::Wrong;
+        return None;
     }
     if !groups_right(&line[WORD_SIZE..], n) {
-        return LoopLine::Wrong;
+        return None;
     }
-    if is_count(n) {
-        return LoopLine::Devices(n);
-    }
-    LoopLine::Wrong
+    is_count(n).then_some(n)
 }
 
 // A device's set-up item.
@@ -141,12 +108,8 @@ pub fn items_in(groups: &[u8], n: usize, items: &mut [u8])
     ensures { Wrote (join (map item_of (parts group_size n groups.now)))
         0 items.old (item_size * n) items.new }
 {
-    let mut rest = &groups[..];
-    let mut left = n;
     let mut at = 0;
-    while left > 0 {
-        at = put(items, at, &item_of(&rest[..GROUP_SIZE]));
-        rest = &rest[GROUP_SIZE..];
-        left -= 1;
+    for group in groups[..GROUP_SIZE * n].chunks_exact(GROUP_SIZE) {
+        at = put(items, at, &item_of(group));
     }
 }

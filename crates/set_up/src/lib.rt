@@ -11,12 +11,13 @@ ghost use Rattle.area.specs.Loop.{Holds};
 ghost use Rattle.calls.specs.Outcome.{Is};
 ghost use Rattle.calls.specs.SetUp.{devices_for, is_items, item_width, items_of, items_fit, powered_on, set_up_of};
 ghost use Rattle.calls.specs.Inner.{Sets};
+ghost use Rattle.refusal.specs.Refusal.{told};
 
 use area::change::{blank, set_device};
-use area::{
-    ITEM_SIZE, LINK_SIZE, LONG_ITEM_SIZE, POLL_ITEM_SIZE, SHAPE, UNSOUND, area_size, is_count,
-};
+use area::runs::all_parts;
+use area::{ITEM_SIZE, LINK_SIZE, LONG_ITEM_SIZE, POLL_ITEM_SIZE, area_size, is_count};
 use device::Device;
+use refusal::Refusal;
 
 // The number of devices whose area has a length, if any has.
 fn devices_for(len: usize) -> usize
@@ -71,22 +72,20 @@ fn item_of(bytes: &[u8]) -> [u8; LONG_ITEM_SIZE]
     item
 }
 
-// Whether each of n items is allowed.
+// Whether an item is allowed, which is asked of it as one of 14 bytes.
+fn item_allowed(item: &[u8]) -> bool
+    requires { length item.now ≤ long_item_size }
+    ensures { result ≡ allowed item.now }
+{
+    sound::item_allowed(&item_of(item))
+}
+
+// Whether each of n items is.
 fn items_allowed(items: &[u8], n: usize) -> bool
     requires { (n ≤ most_devices) × (is_items (length items.now) n ≡ true) }
     ensures { result ≡ all allowed (items_of n items.now) }
 {
-    let width = item_width(items.len(), n);
-    let mut rest = &items[..];
-    let mut left = n;
-    while left > 0 {
-        if !sound::item_allowed(&item_of(&rest[..width])) {
-            return false;
-        }
-        rest = &rest[width..];
-        left -= 1;
-    }
-    true
+    all_parts(items, item_width(items.len(), n), n, item_allowed)
 }
 
 // The area becomes that of n allowed items.
@@ -96,25 +95,23 @@ fn power_on(area: &mut [u8], items: &[u8], n: usize)
 {
     blank(area, n);
     let width = item_width(items.len(), n);
-    let mut i = 0;
-    while i < n {
+    for i in 0..n {
         let at = width * i;
         let item = item_of(&items[at..at + width]);
         set_device(area, i, Device::power_on(item));
-        i += 1;
     }
 }
 
-pub fn set_up(area: &mut [u8], items: &[u8]) -> u8
-    ensures { Is (set_up_of area.old items.now) result area.new }
+pub fn set_up(area: &mut [u8], items: &[u8]) -> Result<(), Refusal>
+    ensures { Is (set_up_of area.old items.now) (told result) area.new }
 {
     let n = devices_for(area.len());
     if !items_fit(area, items, n) {
-        return SHAPE;
+        return Err(Refusal::Shape);
     }
     if !items_allowed(items, n) {
-        return UNSOUND;
+        return Err(Refusal::Unsound);
     }
     power_on(area, items, n);
-    0
+    Ok(())
 }

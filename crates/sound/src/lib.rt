@@ -2,10 +2,10 @@
 // clauses stands in a test of its own, so that the first that fails decides.
 #![tactic(auto)]
 
-ghost use Rattle.std.specs.Prelude.{◌≡◌, length};
+ghost use Rattle.std.specs.Prelude.{◌≡◌};
 ghost use Rattle.device.specs.PowerOn.{power_on};
 ghost use Rattle.device.specs.declared.Device.{Device};
-ghost use Rattle.record.specs.Record.{record_size, device_of};
+ghost use Rattle.record.specs.Record.{device_of};
 ghost use Rattle.record.specs.Sound.{in_range, service_with_status, unaddress_with_both, listener_able, service_able};
 ghost use Rattle.record.specs.Sound.{poll_right, sound_record, allowed};
 ghost use Rattle.record.specs.Sound.{abilities_allowed};
@@ -16,13 +16,12 @@ use device::Device;
 use record::read::{has, has_further};
 use record::{
     ABILITIES, ADDRESS, ASSIGNED, CHOICE, CONFIGURED, ENABLED, FIXED, FURTHER, ID_LENGTH, LISTENER,
-    LOAD_LENGTH, NOTED, POLL_STATUS, REMOTE, SERVICE, TALKER,
+    LOAD_LENGTH, NOTED, POLL_STATUS, REMOTE, SERVICE, SIZE, TALKER,
 };
 use talker_sound::talker_right;
 use zero_bytes::{zero_past, zero_past_length};
 
-fn in_range(rec: &[u8]) -> bool
-    requires { length rec.now ≡ record_size }
+fn in_range(rec: &[u8; SIZE]) -> bool
     ensures { result ≡ in_range (device_of rec.now) }
 {
     (rec[FIXED] <= Device::NO_ADDRESS)
@@ -73,8 +72,7 @@ fn abilities_allowed(abilities: u8) -> bool
     false
 }
 
-fn listener_able(rec: &[u8]) -> bool
-    requires { length rec.now ≡ record_size }
+fn listener_able(rec: &[u8; SIZE]) -> bool
     ensures { result ≡ listener_able (device_of rec.now) }
 {
     if rec[LISTENER] == 1 {
@@ -83,8 +81,7 @@ fn listener_able(rec: &[u8]) -> bool
     true
 }
 
-fn service_able(rec: &[u8]) -> bool
-    requires { length rec.now ≡ record_size }
+fn service_able(rec: &[u8; SIZE]) -> bool
     ensures { result ≡ service_able (device_of rec.now) }
 {
     if Device::NO_SERVICE < rec[SERVICE] {
@@ -94,8 +91,7 @@ fn service_able(rec: &[u8]) -> bool
 }
 
 // What a device is able to do and be.
-fn able(rec: &[u8]) -> bool
-    requires { length rec.now ≡ record_size }
+fn able(rec: &[u8; SIZE]) -> bool
     ensures { result ≡ able_all (device_of rec.now) }
 {
     if abilities_allowed(rec[ABILITIES]) {
@@ -111,8 +107,7 @@ fn able(rec: &[u8]) -> bool
 }
 
 // What the poll's bytes ask for; without the ability, as most devices are, both are zero.
-fn poll_right(rec: &[u8]) -> bool
-    requires { length rec.now ≡ record_size }
+fn poll_right(rec: &[u8; SIZE]) -> bool
     ensures { result ≡ poll_right (device_of rec.now) }
 {
     let assigned = rec[ASSIGNED];
@@ -125,8 +120,7 @@ fn poll_right(rec: &[u8]) -> bool
 }
 
 // A record of 64 bytes is sound: its device is.
-pub fn record_sound(rec: &[u8]) -> bool
-    requires { length rec.now ≡ record_size }
+pub fn record_sound(rec: &[u8; SIZE]) -> bool
     ensures { result ≡ sound_record rec.now }
 {
     if in_range(rec) {
@@ -145,8 +139,7 @@ pub fn record_sound(rec: &[u8]) -> bool
 }
 
 // What an item asks for by its variant: an extended device has no ability 32, a simple one no second address.
-fn variant_allowed(item: &[u8]) -> bool
-    requires { length item.now ≡ 14 }
+fn variant_allowed(item: &[u8; 14]) -> bool
     ensures { result ≡ variant_allowed (power_on item.now) }
 {
     if item[12] & Device::EXTENDED != 0 {
@@ -156,8 +149,7 @@ fn variant_allowed(item: &[u8]) -> bool
 }
 
 // A set-up item is allowed: its device at power-on is sound. What else that asks is zero there.
-pub fn item_allowed(item: &[u8]) -> bool
-    requires { length item.now ≡ 14 }
+pub fn item_allowed(item: &[u8; 14]) -> bool
     ensures { result ≡ allowed item.now }
 {
     (item[1] <= Device::NO_ADDRESS)

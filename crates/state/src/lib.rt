@@ -3,8 +3,8 @@
 
 mod change;
 
-ghost use Rattle.std.specs.Prelude.{◌≡◌, length};
-ghost use Rattle.record.specs.Record.{record_size, device_of};
+ghost use Rattle.std.specs.Prelude.{◌≡◌};
+ghost use Rattle.record.specs.Record.{device_of};
 ghost use Rattle.record.specs.Written.{written};
 ghost use Rattle.device.specs.declared.Device.{Device};
 ghost use Rattle.device.specs.Reply.{sends};
@@ -13,7 +13,7 @@ ghost use Rattle.state.specs.State.{values, with, in_record, sent_with};
 use device::Handed;
 use record::{
     ADDRESS, ASSIGNED, CONFIGURED, ENABLED, LAST, LISTENER, NOTED, REMOTE, REPLIED, SENT, SERVICE,
-    TALKER, word_at,
+    SIZE, TALKER, word_at,
 };
 
 // The order of the fields was found by trying: it decides how much stack a hop takes, and means nothing else
@@ -55,8 +55,7 @@ pub fn sends(state: State, frame: u16) -> Passed
 
 impl State {
     // The state in a record.
-    pub fn read(rec: &[u8]) -> Self
-        requires { length rec.now ≡ record_size }
+    pub fn read(rec: &[u8; SIZE]) -> Self
         ensures { in_record rec.now result ≡ device_of rec.now }
     {
         let last = word_at(rec, LAST);
@@ -77,8 +76,7 @@ impl State {
     }
 
     // Its bytes go into a record; every other byte stays.
-    pub fn write(self, rec: &mut [u8])
-        requires { length rec.old ≡ record_size }
+    pub fn write(self, rec: &mut [u8; SIZE])
         ensures { rec.new ≡ written (values self) rec.old }
     {
         rec[ADDRESS] = self.address;

@@ -2,62 +2,55 @@
 // by the set-up; here the first fault of such a line is named.
 #![tactic(auto)]
 
-ghost use Rattle.std.specs.Prelude.{◌≡◌, length};
-ghost use Rattle.script.specs.Script.{group_size};
-
 use area::MOST_DEVICES;
 use device::Device;
-use script::{GROUP_SIZE, WORD_SIZE, begins, digit, group_right};
-use std::io;
+use print::hex_byte;
+use script::{GROUP_SIZE, digit, group_right};
+use std::{fmt, io};
 
 // The abilities of a talker.
 const TALKS: u8 = Device::SEND_DATA | Device::STATUS | Device::DEVICE_ID | Device::ACCESSORY_ID;
 
-fn say(err: &impl Print, words: &[u8]) -> io::Result<()> {
-    print::text(err, words)
+// What is wrong with a device of line 1: its form, an address that is none, or abilities without what they need.
+#[derive(Clone, Copy)]
+enum Fault {
+    Form,
+    FixedAddress(u8),
+    Abilities(u8, &'static str),
 }
 
-fn decimal(err: &impl Print, number: usize) -> io::Result<()> {
-    print::decimal(err, number as u64)
-}
-
-// Two digits, as a script writes a byte.
-fn hex(err: &impl Print, byte: u8) -> io::Result<()> {
-    print::hex_byte(err, byte)
-}
-
-fn device(err: &impl Print, i: usize) -> io::Result<()> {
-    say(err, b"line 1: device ")?;
-    decimal(err, i)?;
-    say(err, b": ")
-}
-
-fn at_end(err: &impl Print, what: &[u8], number: usize) -> io::Result<()> {
-    say(err, what)?;
-    say(err, b" at the end of line ")?;
-    decimal(err, number)?;
-    say(err, b"\n")
-}
-
-// The last byte of a line, if it is one that does not show.
-fn unseen(err: &impl Print, line: &[u8], number: usize) -> io::Result<bool> {
-    if line.len() == 0 {
-        return Ok(false);
+impl fmt::Display for Fault {
+    fn fmt<W: fmt::Write>(&self, f: &mut fmt::Formatter<W>) -> fmt::Result {
+        match *self {
+            Fault::Form => write!(
+                f,
+                "a space and four lower-case hexadecimal digits, abilities and fixed address"
+            ),
+            Fault::FixedAddress(fixed) => {
+                let highest = hex_byte(Device::NO_ADDRESS);
+                write!(f, "fixed address {} is over {highest}", hex_byte(fixed))
+            }
+            Fault::Abilities(abilities, others) => {
+                write!(f, "abilities {} need {others}", hex_byte(abilities))
+            }
+        }
     }
-    let last = line[line.len() - 1];
-    if last == b'\r' {
-        at_end(err, b"carriage return", number)?;
-        return Ok(true);
+}
+
+// A device whose item is not allowed.
+fn item(abilities: u8, fixed: u8) -> Option<Fault> {
+    let has = |any: u8| abilities & any != 0;
+    if Device::NO_ADDRESS < fixed {
+        return Some(Fault::FixedAddress(fixed));
     }
-    if last == b' ' {
-        at_end(err, b"space", number)?;
-        return Ok(true);
+    if has(Device::SERVICE_REQUEST) && !has(Device::STATUS) {
+        return Some(Fault::Abilities(abilities, "status"));
     }
-    if last == b'\t' {
-        at_end(err, b"tab", number)?;
-        return Ok(true);
+    if has(Device::UNADDRESS) && !(has(Device::LISTEN) && has(TALKS)) {
+        let others = "listen and one of data, status, device ID, accessory ID";
+        return Some(Fault::Abilities(abilities, others));
     }
-    Ok(false)
+    None
 }
 
 // The byte of two digits; the remainders change no digit, and keep the sum a byte whatever is written there.
@@ -65,135 +58,76 @@ fn byte(high: u8, low: u8) -> u8 {
     16 * (digit(high) % 16) + digit(low) % 16
 }
 
-fn abilities_need(err: &impl Print, i: usize, abilities: u8, what: &[u8]) -> io::Result<()> {
-    device(err, i)?;
-    say(err, b"abilities ")?;
-    hex(err, abilities)?;
-    say(err, b" need ")?;
-    say(err, what)?;
-    say(err, b"\n")
+// A device whose form is wrong, as that of too few bytes, or whose item is not allowed.
+fn group(g: &[u8]) -> Option<Fault> {
+    match *g {
+        [_, a, b, c, d] if group_right(g) => item(byte(a, b), byte(c, d)),
+        _ => Some(Fault::Form),
+    }
 }
 
-// Device i, if its item is not allowed.
-fn item(err: &impl Print, i: usize, abilities: u8, fixed: u8) -> io::Result<bool> {
-    if Device::NO_ADDRESS < fixed {
-        device(err, i)?;
-        say(err, b"fixed address ")?;
-        hex(err, fixed)?;
-        say(err, b" is over ")?;
-        hex(err, Device::NO_ADDRESS)?;
-        say(err, b"\n")?;
-        return Ok(true);
+// The last byte of a line, if it is one that does not show.
+fn unseen(line: &[u8]) -> Option<&'static str> {
+    match line.last()? {
+        b'\r' => Some("carriage return"),
+        b' ' => Some("space"),
+        b'\t' => Some("tab"),
+        _ => None,
     }
-    if (abilities & Device::SERVICE_REQUEST != 0) & (abilities & Device::STATUS == 0) {
-        abilities_need(err, i, abilities, b"status")?;
-        return Ok(true);
-    }
-    if (abilities & Device::UNADDRESS != 0)
-        & ((abilities & Device::LISTEN == 0) | (abilities & TALKS == 0))
-    {
-        let what = b"listen and one of data, status, device ID, accessory ID";
-        abilities_need(err, i, abilities, what)?;
-        return Ok(true);
-    }
-    Ok(false)
 }
 
-fn form(err: &impl Print, i: usize) -> io::Result<()> {
-    device(err, i)?;
-    say(
-        err,
-        b"a space and four lower-case hexadecimal digits, abilities and fixed address\n",
-    )
+fn at_end(err: &impl Print, what: &str, number: usize) -> io::Result<()> {
+    println!(err; "{what} at the end of line {number}")
 }
 
-// Device i, if its form is wrong or its item is not allowed.
-fn group(err: &impl Print, i: usize, g: &[u8]) -> io::Result<bool>
-    requires { length g.now ≡ group_size }
-{
-    if !group_right(g) {
-        form(err, i)?;
-        return Ok(true);
-    }
-    item(err, i, byte(g[1], g[2]), byte(g[3], g[4]))
-}
-
-// The first device that is wrong, if there is one.
-fn groups(err: &impl Print, all: &[u8]) -> io::Result<bool> {
-    let n = all.len() / GROUP_SIZE;
-    for i in 0..n {
-        let at = GROUP_SIZE * i;
-        if group(err, i, &all[at..at + GROUP_SIZE])? {
-            return Ok(true);
+// Line 1 behind its word: the first device that is wrong, or else there are none, or too many.
+fn devices(err: &impl Print, all: &[u8]) -> io::Result<()> {
+    for (i, g) in all.chunks(GROUP_SIZE).enumerate() {
+        if let Some(fault) = group(g) {
+            return println!(err; "line 1: device {i}: {fault}");
         }
     }
-    Ok(false)
-}
-
-// No device, or too many: what is left where each device is right.
-fn count(err: &impl Print, n: usize) -> io::Result<()> {
-    say(err, b"line 1: ")?;
-    if n == 0 {
-        say(err, b"no device")?;
-    } else {
-        decimal(err, n)?;
-        say(err, b" devices")?;
+    match all.len() / GROUP_SIZE {
+        0 => println!(err; "line 1: no device: a loop has 1 to {MOST_DEVICES}"),
+        n => println!(err; "line 1: {n} devices: a loop has 1 to {MOST_DEVICES}"),
     }
-    say(err, b": a loop has 1 to ")?;
-    decimal(err, MOST_DEVICES)?;
-    say(err, b"\n")
-}
-
-// Line 1 behind its word: its devices, a rest that is none, and how many there are.
-fn devices(err: &impl Print, all: &[u8]) -> io::Result<()> {
-    if groups(err, all)? {
-        return Ok(());
-    }
-    let n = all.len() / GROUP_SIZE;
-    if GROUP_SIZE * n < all.len() {
-        return form(err, n);
-    }
-    count(err, n)
 }
 
 fn line_1(err: &impl Print, line: &[u8]) -> io::Result<()> {
-    if unseen(err, line, 1)? {
-        return Ok(());
+    if let Some(what) = unseen(line) {
+        return at_end(err, what, 1);
     }
-    if !begins(line, b"loop") {
-        let words =
-            b"line 1: the word loop comes first, then a space and four digits for each device\n";
-        return say(err, words);
+    match line.strip_prefix(b"loop") {
+        Some(all) => devices(err, all),
+        None => println!(err;
+            "line 1: the word loop comes first, then a space and four digits for each device"
+        ),
     }
-    devices(err, &line[WORD_SIZE..])
+}
+
+// The line that starts at a place, empty behind the end.
+fn line_at(input: &[u8], at: usize) -> &[u8] {
+    let rest = input.get(at..).unwrap_or(&[]);
+    rest.split(|byte| *byte == b'\n').next().unwrap_or(rest)
 }
 
 // Words for a script of more than the longest's bytes, or whose line 1 is wrong.
 pub fn first(err: &impl Print, input: &[u8], longest: usize) -> io::Result<()> {
     if longest < input.len() {
-        say(err, b"the script is longer than ")?;
-        decimal(err, longest)?;
-        return say(err, b" bytes\n");
+        return println!(err; "the script is longer than {longest} bytes");
     }
-    if input.len() == 0 {
-        return say(err, b"line 1: the script is empty\n");
+    if input.is_empty() {
+        return println!(err; "line 1: the script is empty");
     }
-    let end = byte_runs::find(input, 0, input.len(), b'\n');
-    line_1(err, &input[0..end])
+    line_1(err, line_at(input, 0))
 }
 
 // Words for a wrong later line, which starts at a place.
 pub fn later(err: &impl Print, input: &[u8], at: usize, number: usize) -> io::Result<()> {
-    if at < input.len() {
-        let end = byte_runs::find(input, at, input.len(), b'\n');
-        if unseen(err, &input[at..end], number)? {
-            return Ok(());
-        }
+    match unseen(line_at(input, at)) {
+        Some(what) => at_end(err, what, number),
+        None => println!(err;
+            "line {number}: a frame is three lower-case hexadecimal digits, at most 7ff"
+        ),
     }
-    say(err, b"line ")?;
-    decimal(err, number)?;
-    say(
-        err,
-        b": a frame is three lower-case hexadecimal digits, at most 7ff\n",
-    )
 }

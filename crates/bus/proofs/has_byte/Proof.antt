@@ -1,5 +1,4 @@
 -- `bus::has_byte` meets its contract: a frame with a byte is a command, and its data bits are that byte.
-use mathlib.Core.Path.{◌∙◌}
 use borrow.Author.Rules.{rules}
 use Rattle.bus.proofs.Codes.{has_byte_is}
 use Rattle.bus.proofs.has_byte.Statement.{statement}

@@ -1,27 +1,24 @@
--- At a hit nothing is left to pass, at a miss one byte, and at the end there is none to find.
-use Rattle.std.proofs.Common.{◌≡◌, arith}
-use Rattle.byte_runs.proofs.Runs.{at_end, at_hit, at_miss}
+-- A byte that is found stands as far behind the part's start, and where there is none the part's length leads to the
+-- second place.
+use Rattle.std.proofs.Common.{◌≡◌, ◌≤◌, arith, length, eqb, rules, tests}
+use Rattle.std.specs.Prelude.{unwrap_or}
+use Rattle.std.proofs.lemmas.Iterator.{YieldsList-from_slice}
+use Rattle.std.proofs.lemmas.Iterator.Search.{position_from_yields_List}
+use Rattle.byte_runs.specs.Bytes.{index_of, slice}
+use Rattle.byte_runs.proofs.Runs.{index_found}
+use Rattle.byte_runs.proofs.find.Goals.{After-position}
 use Rattle.byte_runs.proofs.find.Goals as goal
 
-pub returns-then-s-i : goal.returns-then-s-i
-returns-then-s-i c = (
-  omega (
-    arith,
-    at_hit c.args.byte c.loop-i.i c.args.to c.args.s.now c.loop-i-test.true c.requires.1 c.if-s-i.true,
-    c.loop-i.invariant,
-  ),
-  omega arith,
-)
+found : (c : After-position) → let part = slice c.args.from c.args.to c.args.s.now in
+    (unwrap_or c.position.result (length part) ≡ index_of c.args.byte part) × (index_of c.args.byte part ≤ length part)
+found c = index_found c.args.byte (slice c.args.from c.args.to c.args.s.now)
+    (position_from_yields_List (λ x. eqb x c.args.byte) _ _ c.position.result c.position.ensures.ran
+    (YieldsList-from_slice _ (cc)) (λ x b q k. search (rules, tests)))
 
-pub loop-i-preserved : goal.loop-i-preserved
-loop-i-preserved c =
-    omega (
-      arith,
-      at_miss c.args.byte c.loop-i.i c.args.to c.args.s.now c.loop-i-test.true c.requires.1 c.if-s-i.false,
-      c.loop-i.invariant,
-    )
+pub returns-in-Some : goal.returns-in-Some
+returns-in-Some c =
+    let f = rw c.in-Some.is at (found (goal.at.returns-in-Some c).After-position) in (omega arith, omega arith)
 
-pub returns : goal.returns
-returns c =
-    let e : c.loop-i.i ≡ c.args.to = omega arith in
-    (omega (arith, at_end c.args.byte c.args.to c.args.s.now, rw e at c.loop-i.invariant), omega arith)
+pub returns-in-None : goal.returns-in-None
+returns-in-None c =
+    let f = rw c.in-None.is at (found (goal.at.returns-in-None c).After-position) in (omega arith, omega arith)

@@ -4,8 +4,8 @@ use Prim.Native.Nat.{◌≤◌, ◌-◌, ◌<◌}
 use mathlib.Core.Path.{◌≡◌, refl, sym, ◌∙◌}
 use mathlib.Core.Bool.{true}
 use native.Mathlib.Omega.{arith}
+use Rattle.std.specs.Prelude.{Some}
 use Rattle.area.specs.Loop.{loop_of}
-use Rattle.area.specs.declared.Place.{Place}
 use Rattle.area.proofs.Areas.{loop_good}
 use Rattle.calls.specs.Drain.{can_hop, highest}
 use Rattle.calls.proofs.Owing.{owed_few}
@@ -32,7 +32,7 @@ decreases-turns area₀ budget n top₀ hops₀ device₀ byte₀ end₀ area to
 -- the device found is the highest that can hop
 found : (c : tie.Then-can_hop invariant-search decreases-search invariant-turns decreases-turns) →
     let i = c.search.i - 1 in
-    (highest c.devices_in-n.result (loop_of c.turns.area) ≡ Place.At i) ×
+    (highest c.devices_in-n.result (loop_of c.turns.area) ≡ Some i) ×
     (i < c.devices_in-n.result) × (can_hop i (loop_of c.turns.area) ≡ true)
 found c =
     let can = sym c.can_hop.ensures ∙ c.if-can_hop.true in (

@@ -13,14 +13,13 @@ read_more a k n xs ys within fits =
     ∙ take-append-add (take a xs) (ys ++ post_of a k xs) n
     ∙ ap (λ (l : List ℕ). take a xs ++ l) (take-append-le n ys (post_of a k xs) fits)
 
-pub loop-preserved : goal.loop-preserved
-loop-preserved g c =
-    let l = c.loop in
+pub loop-done-preserved : goal.loop-done-preserved
+loop-done-preserved g c =
+    let l = c.loop-done in
     let read = c.in_ok-n.ensures in
     let joined = read_more l.done (length l.buffer - l.done) c.in_ok-n.n l.buffer c.read.new.buf l.invariant.within read.bound.0 in
     record {
       long = search rules;
       within = search rules;
-      turns = search rules;
       bytes = subst (Consumes _ _) (sym joined) (Consumes-trans _ _ _ _ _ l.invariant.bytes read.bytes.0);
     }

@@ -3,5 +3,5 @@ use Rattle.std.proofs.Common.{◌<◌}
 use Rattle.frame.specs.Messages.{frames}
 use Rattle.messages.proofs.code.Given as goal
 
-abbrev pub invariant-loop-i : goal.invariant-loop-i
-invariant-loop-i l = l.bits < frames
+abbrev pub invariant-loop-digit : goal.invariant-loop-digit
+invariant-loop-digit l = l.bits < frames

@@ -1,7 +1,6 @@
 -- `poll_count::counted` meets its contract: a byte has eight bits, so that both counts are those over its places.
 use Prim.Native.Nat.{ℕ, ◌≤◌, ◌<◌}
 use native.Mathlib.Omega.{arith}
-use borrow.Author.Rules.{rules}
 use lib.Count.{ones, count_leading_zeros, count_trailing_zeros, ones-le, leading_le, trailing_le}
 use Rattle.poll_count.proofs.Count.{ones_are, lowest_is}
 use Rattle.poll_count.proofs.counted.Statement.{statement}

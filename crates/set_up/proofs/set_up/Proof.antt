@@ -1,6 +1,5 @@
 -- The lengths' refusal, then the items'; else the area of the devices at power-on.
 use mathlib.Core.Path.{refl, sym, ◌∙◌}
-use native.Mathlib.Omega.{arith}
 use borrow.Author.Tests.{not-true, not-false}
 use Rattle.area.specs.Sizes.{most_devices}
 use Rattle.calls.proofs.Powered.{items_fit_lem, set_shape, set_unsound, set_done}

@@ -50,7 +50,7 @@ add_number c =
 returns : tie.Need-returns
 returns c =
     line_round c.args.line.now c.args.at c.args.number c.args.area.now
-    (sym c.frame_in.ensures ∙ c.in-Frame.is)
+    (sym c.frame_in.ensures ∙ c.in-Some.is)
     c.area_size-size.ensures c.round-written.ensures refl refl
 
 pub line_spec : {M : Type 1} → statement M

@@ -1,0 +1,18 @@
+-- Each return follows from the tests on its way.
+use Rattle.device.specs.Poll.{ppe}
+use Rattle.device.proofs.Arms.{arms}
+use Rattle.record.specs.Record.{device_of}
+use Rattle.engine_bytes.proofs.Ways.{able, unable}
+use Rattle.engine_poll.proofs.ppe.Goals as goal
+
+pub returns-then-rec-ne1 : goal.returns-then-rec-ne1
+unfolding device_of ppe
+returns-then-rec-ne1 c = search (arms, able, unable)
+
+pub returns-then-rec-eq0 : goal.returns-then-rec-eq0
+unfolding device_of ppe
+returns-then-rec-eq0 c = search (arms, able, unable)
+
+pub returns : goal.returns
+unfolding device_of ppe
+returns c = search (arms, able, unable)

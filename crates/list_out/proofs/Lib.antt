@@ -1,0 +1,2 @@
+-- Ending says that the listing comes to its end.
+pub mod Ending

@@ -1,0 +1,8 @@
+-- The call made in the record is the device's.
+use Rattle.std.proofs.Common.{rules}
+use Rattle.record_local.specs.Local.{sets_poll_status}
+use Rattle.keeps.proofs.Keeps.{poll_status_good}
+use Rattle.local_calls.proofs.poll_status.Goals as goal
+
+pub returns : goal.returns
+returns c = c.in_record.ensures (λ d. sets_poll_status d c.args.status) (λ d g. poll_status_good d c.args.status g) (λ b r x m. search rules)

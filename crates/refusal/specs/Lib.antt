@@ -1,0 +1,2 @@
+-- Why a call is refused.
+pub mod Refusal
