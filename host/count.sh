@@ -8,7 +8,7 @@ step=-singlestep
 qemu-x86_64 -help | grep -q one-insn-per-tb && step=-one-insn-per-tb
 # The C library chooses its memcpy and memcmp by the processor, so this is a fixed one.
 executed() {
-    qemu-x86_64 -cpu qemu64 $step -d exec,nochain -D "$dir/executed" "$program" "$1" "$2" || exit 1
+    qemu-x86_64 -cpu Nehalem $step -d exec,nochain -D "$dir/executed" "$program" "$1" "$2" || exit 1
     wc -l < "$dir/executed"
 }
 status=0
