@@ -12,17 +12,30 @@ use Rattle.device.specs.Change.{Edit, ◌becomes◌, changed}
 use Rattle.device.specs.declared.Device.{Device}
 use Rattle.record.specs.Record.{record_size, device_of, record_of}
 use Rattle.record.specs.Fits.{Bytes}
-use Rattle.record.proofs.Laws.{record_back, read_again, read_sizes}
+use Rattle.record.specs.Written.{IsRecord}
+use Rattle.record.proofs.Laws.{record_wide, read_again, read_sizes}
+use Rattle.record.proofs.Whole.{record_is}
 use Rattle.engine_bytes.specs.Single.{singles, is_in, is_single}
+
+-- what a change in place ensures
+abbrev pub Now : List ℕ → Device → Type 0
+Now b d = IsRecord b × (device_of b ≡ d)
 
 -- `over` stores in a record; where it makes that of any device the changed one's, it does so here
 pub stored : (over : List ℕ → List ℕ) (es : List Edit) → ((d : Device) → over (record_of d) ≡ record_of (changed d es)) →
-    (b : List ℕ) → length b ≡ record_size → Bytes b → device_of (over b) ≡ changed (device_of b) es
-stored over es h b long small =
+    (b : List ℕ) → IsRecord b → Now (over b) (changed (device_of b) es)
+stored over es h b i =
     let d = device_of b in
-    let e : over b ≡ record_of (changed d es) = ap over (sym (record_back b long small)) ∙ h d in
+    let e : over b ≡ record_of (changed d es) = ap over (sym i.whole) ∙ h d in
     let z = read_sizes b in
-    ap device_of e ∙ read_again (changed d es) z.0 z.1
+    let r : device_of (over b) ≡ changed d es = ap device_of e ∙ read_again (changed d es) z.0 z.1 in
+    (record { long = ap (λ (x : List ℕ). length x) e ∙ record_wide (changed d es); whole = ap record_of r ∙ sym e }, r)
+
+-- the device in the bytes of an array, which are a record's by their type
+pub stored_here : (over : List ℕ → List ℕ) (es : List Edit) →
+    ((d : Device) → over (record_of d) ≡ record_of (changed d es)) → (b : List ℕ) → length b ≡ record_size → Bytes b →
+    device_of (over b) ≡ changed (device_of b) es
+stored_here over es h b long small = (stored over es h b (record_is b long small)).1
 
 -- ---- one value, by its place
 

@@ -6,7 +6,10 @@ use Prim.Native.Nat.{ℕ, ◌≤◌}
 use native.Mathlib.Omega.{arith}
 use lib.Dec.{eqb}
 use borrow.Author.Tests.{eq-eqb, ne_eqb, eqb-true, eqb-false}
-use Rattle.std.specs.Prelude.{Option, Some, None, Ok, Err}
+use Rattle.std.specs.Prelude.{Option, Some, None, Result, Ok, Err}
+use Rattle.refusal.specs.Refusal.{number, numbered}
+use Rattle.refusal.specs.declared.Refusal.{Refusal}
+use Rattle.refusal.proofs.Numbers.{one_reason}
 use Rattle.area.specs.Loop.{Loop, size, loop_of, judge_of, HasDevice}
 use Rattle.area.specs.Lookup.{place_of}
 use Rattle.calls.specs.Outcome.{Outcome, refuse, after_of, call_of, Is}
@@ -28,6 +31,15 @@ module _ (a : List ℕ) (i : ℕ) where
   pub found_some : (k : ℕ) → judge_of a ≡ 0 → place_of (loop_of a) i ≡ Some k → Ok k ≡ found_of a i
   unfolding found_of
   found_some k j p = rw (eq-eqb _ _ j) (sym (ap found_at p))
+
+-- what is found, with its refusal as a number, leaves one answer
+pub one_found : (r s : Result ℕ Refusal) → numbered r ≡ numbered s → r ≡ s
+one_found (Ok i) (Ok j) e = cc
+one_found (Ok i) (Err refusal) e = cc
+one_found (Err refusal) (Ok j) e = cc
+one_found (Err refusal) (Err other) e =
+    let same : number refusal ≡ number other = cc in
+    ap Err (one_reason refusal other same)
 
 -- ---- the call, by what was found
 

@@ -9,6 +9,7 @@ use area::lookup::place_of;
 use judge::judge;
 use refusal::Refusal;
 
+#[tactic(auto, using(crate::proofs::Named::found_wrong, crate::proofs::Named::found_none, crate::proofs::Named::found_some, refusal::proofs::Numbers::numbered_above))]
 pub fn find(area: &[u8], device: u64) -> Result<usize, Refusal>
     ensures { numbered result ≡ found_of area.now device }
 {

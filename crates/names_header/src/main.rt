@@ -59,11 +59,11 @@ fn main(rt: HostRuntime) -> io::Result<()> {
 }
 
 // An array: what it is of, its name, and its entries.
-fn array(rt: &impl Print, what: &str, name: &str, table: &[&str]) -> io::Result<()> {
+fn array(rt: &impl Print, what: &str, name: &str, table: &[&'static str]) -> io::Result<()> {
     let count = table.len();
     println!(rt; "\n/* {what} */\nstatic const char *const pil_{name}[{count}] = {{")?;
-    for entry in table {
-        println!(rt; "    \"{entry}\",")?;
+    for number in 0..count as u64 {
+        println!(rt; "    \"{}\",", names::name(table, number))?;
     }
     println!(rt; "}};")
 }

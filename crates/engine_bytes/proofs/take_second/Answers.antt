@@ -3,7 +3,7 @@ use Rattle.std.proofs.Common.{rules, ℕ, ◌+◌, ◌*◌, ◌/◌, refl, List,
 use Rattle.device.specs.Device.{received}
 use Rattle.device.specs.Change.{◌becomes◌, second}
 use Rattle.record.specs.Record.{device_of, record_of}
-use Rattle.engine_bytes.proofs.Stored.{stored}
+use Rattle.engine_bytes.proofs.Stored.{stored_here}
 use Rattle.engine_bytes.proofs.take_second.Goals as goal
 
 pub returns : goal.returns
@@ -11,4 +11,4 @@ unfolding record_of device_of
 returns c =
     let b = c.args.rec.now in
     let x = get_or b 21 0 / received * received + c.args.address in
-    stored (λ (r : List ℕ). set r 21 x) (second becomes x ∷ []) (λ d. refl) b c.told-rec (search rules)
+    stored_here (λ (r : List ℕ). set r 21 x) (second becomes x ∷ []) (λ d. refl) b c.told-rec (search rules)
